@@ -1,0 +1,1 @@
+// No code: words on lists for definitions and proofs.

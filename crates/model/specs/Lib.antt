@@ -1,0 +1,4 @@
+pub mod Task
+pub mod Rows
+pub mod Least
+pub mod Bounds
