@@ -1,0 +1,28 @@
+-- Laws of the rows and times that a table uses. Assumes nothing.
+use Prim.Native.Nat.{ℕ, _+_, min, _≤_, _<_}
+use native.Mathlib.Numerals.{add-one}
+use mathlib.Core.Path.{_≡_, sym, ap, _∙_}
+use mathlib.Core.List.{List, _∷_, map}
+use lib.Seq.{getD-take, drop-cons, length-take-le}
+use Rattle.table.specs.declared.Row.{Row}
+use lib.ListN.{length, getD, take, drop, length-map, length-take}
+use Rattle.table.specs.Memory.{zeroRow}
+
+-- an array of structs has its length
+pub length-mapped : (X Y : Type 0) (f : X → Y) (l : List X) (n : ℕ) → length (map f l) ≡ n → length l ≡ n
+length-mapped X Y f l n p = sym (length-map l f) ∙ p
+
+-- a table uses at most 64 rows, whatever its count says
+pub used-length : (count : ℕ) (rows : List Row) → length rows ≡ 64 → length (take count rows) ≡ min count 64
+used-length count rows long = length-take count rows ∙ ap (min count) long
+
+-- a used row is the row that stands there
+pub used-row : (count : ℕ) (rows : List Row) (i : ℕ) → i < count → getD (take count rows) i zeroRow ≡ getD rows i zeroRow
+used-row count rows i h = getD-take count rows i zeroRow h
+
+-- the used rows from row i on: row i and the others
+pub used-more : (count : ℕ) (rows : List Row) (i : ℕ) → i < count → count ≤ length rows
+    → drop i (take count rows) ≡ getD rows i zeroRow ∷ drop (i + 1) (take count rows)
+used-more count rows i h long =
+    let inside : i < length (take count rows) = rw (length-take-le count rows long) h in
+    drop-cons (take count rows) i zeroRow inside ∙ rw (used-row count rows i h, add-one)

@@ -1,0 +1,36 @@
+-- `table::fault_of` meets its contract. Assumes nothing.
+use borrow.Author.Needs.{needs}
+use borrow.Author.Tests.{lt-ltb, le-ltb}
+use Rattle.table.specs.Faults.{faultOf}
+use Rattle.table.proofs.Codes.{fault-stays, next-decides}
+use Rattle.table.proofs.fault_of.Statement.{statement}
+use Rattle.table.proofs.fault_of.Tie as tie
+
+returns : tie.Need-returns
+unfolding faultOf
+returns c = rw (lt-ltb _ _ (c .if1 .taken))
+
+rows-fault-requires : tie.Need-rows-fault-requires
+rows-fault-requires c κs = search needs
+
+code-of-requires : tie.Need-code-of-requires
+code-of-requires c κs = search needs
+
+returns-2 : tie.Need-returns-2
+unfolding faultOf
+returns-2 c =
+    rw (le-ltb _ _ (c .before .before .before .if1 .left)) (fault-stays (c .before .before .rows-fault .ensures) (c .before .code-of .ensures) _ (c .if2 .taken))
+
+clash-of-requires : tie.Need-clash-of-requires
+clash-of-requires c κs = search needs
+
+returns-3 : tie.Need-returns-3
+unfolding faultOf
+returns-3 c =
+    rw (le-ltb _ _ (c .before .before .before .before .if1 .left))
+    (next-decides (c .before .before .before .rows-fault .ensures) (c .before .before .code-of .ensures) (c .before .if2 .left) (c .clash-of .ensures))
+
+pub fault-of-spec : {M : Type 1} → statement M
+fault-of-spec =
+    tie.close
+    (tie.spec returns rows-fault-requires code-of-requires returns-2 clash-of-requires returns-3)

@@ -1,0 +1,116 @@
+-- `table::first_fault` meets its contract. The invariant: there is no fault before place i. Assumes nothing.
+use Prim.Native.Nat.{ℕ, _+_, _-_, _≤_, _<_}
+use native.Mathlib.Omega.{arith}
+use borrow.Author.Needs.{needs}
+use mathlib.Core.Path.{_≡_, refl, sym, _∙_}
+use mathlib.Core.List.{List}
+use lib.ListN.{length, getD, drop}
+use Rattle.table.specs.declared.Verdict.{Verdict}
+use Rattle.table.specs.declared.Verdict.the-variants.{Good}
+use Rattle.table.specs.Verdicts.{codeOf, _orElse_}
+use Rattle.table.specs.Fields.{want, wanted, Ranges, judge, faultIn}
+use Rattle.table.proofs.Codes.{fault-stays, next-decides}
+use Rattle.table.proofs.Ranges.{wanted-more, fault-more, fault-none}
+use Rattle.table.proofs.first_fault.Statement.{statement}
+use Rattle.table.proofs.first_fault.Tie as tie
+
+record Passing (ns low high left : List ℕ) (carried i : ℕ) : Type 0 where
+  ranges : Ranges (length ns) low high left
+  upto : i ≤ length ns
+  same : faultIn (wanted low high left) carried ns ≡ faultIn (drop i (wanted low high left)) carried (drop i ns)
+
+module _ {ns low high left : List ℕ} {carried i : ℕ} (p : Passing ns low high left carried i) where
+  module _ (h : i < length ns) (v : Verdict) (k : ℕ)
+      (said : v ≡ judge (want (getD low i 0) (getD high i 0) (getD left i 0)) carried (getD ns i 0)) (code : k ≡ codeOf v) where
+    step : faultIn (wanted low high left) carried ns
+        ≡ judge (want (getD low i 0) (getD high i 0) (getD left i 0)) carried (getD ns i 0)
+        orElse faultIn (drop (i + 1) (wanted low high left)) carried (drop (i + 1) ns)
+    step = p .same ∙ fault-more (wanted low high left) _ carried ns i (wanted-more (p .ranges) i h) h
+
+    stops : (k ≡ 0 → ⊥) → v ≡ faultIn (wanted low high left) carried ns
+    stops f = fault-stays said code _ f ∙ sym step
+
+    turn : k ≡ 0 → Passing ns low high left carried (i + 1)
+    turn e = record { ranges = p .ranges; upto = omega arith; same = step ∙ sym (next-decides said code e refl) }
+
+  ends : length ns ≤ i → Good ≡ faultIn (wanted low high left) carried ns
+  ends h = sym (p .same ∙ fault-none _ carried ns i h)
+
+abbrev Inv-loop : tie.InvT-loop
+Inv-loop numbers low high left carried i₀ i = Passing numbers low high left carried i
+
+abbrev μ-loop : tie.MeasureT-loop
+μ-loop numbers low high left carried i₀ i = length numbers - i
+
+loop-holds : tie.Need-loop-holds Inv-loop μ-loop
+loop-holds c = record { ranges = c .before .before .before .before .pre; upto = search needs; same = refl }
+
+mul-number-fault : tie.Need-mul-number-fault Inv-loop μ-loop
+mul-number-fault c = search needs
+
+shared-slice-read-number-fault : tie.Need-shared-slice-read-number-fault Inv-loop μ-loop
+shared-slice-read-number-fault c = search needs
+
+mul-number-fault-2 : tie.Need-mul-number-fault-2 Inv-loop μ-loop
+mul-number-fault-2 c = search needs
+
+shared-slice-read-number-fault-2 : tie.Need-shared-slice-read-number-fault-2 Inv-loop μ-loop
+shared-slice-read-number-fault-2 c = omega (arith, c .before .before .before .loop .inv .ranges .lows)
+
+mul-number-fault-3 : tie.Need-mul-number-fault-3 Inv-loop μ-loop
+mul-number-fault-3 c = search needs
+
+shared-slice-read-number-fault-3 : tie.Need-shared-slice-read-number-fault-3 Inv-loop μ-loop
+shared-slice-read-number-fault-3 c = omega (arith, c .before .before .before .before .loop .inv .ranges .highs)
+
+mul-number-fault-4 : tie.Need-mul-number-fault-4 Inv-loop μ-loop
+mul-number-fault-4 c = search needs
+
+shared-slice-read-number-fault-4 : tie.Need-shared-slice-read-number-fault-4 Inv-loop μ-loop
+shared-slice-read-number-fault-4 c = omega (arith, c .before .before .before .before .before .loop .inv .ranges .lefts)
+
+number-fault-requires : tie.Need-number-fault-requires Inv-loop μ-loop
+number-fault-requires c κs = search needs
+
+code-of-requires : tie.Need-code-of-requires Inv-loop μ-loop
+code-of-requires c κs = search needs
+
+returns : tie.Need-returns Inv-loop μ-loop
+returns c =
+    stops (c .before .before .before .before .before .before .before .before .loop .inv) (c .before .before .before .before .before .before .before .loop-test .taken) _ _ (c .before .before .number-fault .ensures) (c .before .code-of .ensures) (c .if1 .taken)
+
+add-i : tie.Need-add-i Inv-loop μ-loop
+add-i c = search needs
+
+loop-less : tie.Need-loop-less Inv-loop μ-loop
+loop-less c = search needs
+
+loop-again : tie.Need-loop-again Inv-loop μ-loop
+loop-again c =
+    turn (c .before .before .before .before .before .before .before .before .loop .inv) (c .before .before .before .before .before .before .before .loop-test .taken) _ _ (c .before .before .number-fault .ensures) (c .before .code-of .ensures) (c .if1 .left)
+
+returns-2 : tie.Need-returns-2 Inv-loop μ-loop
+returns-2 c = ends (c .before .loop .inv) (c .loop-test .left)
+
+pub first-fault-spec : {M : Type 1} → statement M
+first-fault-spec =
+    tie.close
+    (tie.spec
+    Inv-loop
+    μ-loop
+    loop-holds
+    mul-number-fault
+    shared-slice-read-number-fault
+    mul-number-fault-2
+    shared-slice-read-number-fault-2
+    mul-number-fault-3
+    shared-slice-read-number-fault-3
+    mul-number-fault-4
+    shared-slice-read-number-fault-4
+    number-fault-requires
+    code-of-requires
+    returns
+    add-i
+    loop-less
+    loop-again
+    returns-2)

@@ -1,0 +1,76 @@
+-- `table::row_fault` meets its contract: good fields leave room for the times. Assumes nothing.
+use Prim.Native.Nat.{ℕ, _+_, _-_, _≤_}
+use native.Mathlib.Omega.{arith}
+use denote.Ref.{now}
+use borrow.Author.Needs.{needs}
+use mathlib.Core.Path.{_≡_, sym, ap, _∙_}
+use lib.ListN.{length}
+use Rattle.lists.proofs.Parts.{part-is, part-length}
+use Rattle.table.specs.Verdicts.{codeOf}
+use Rattle.table.specs.Faults.{rowFault}
+use Rattle.table.proofs.Codes.{fault-stays, next-decides}
+use Rattle.table.proofs.Heads.{GoodHead, head-found}
+use Rattle.table.proofs.row_fault.Statement.{statement}
+use Rattle.table.proofs.row_fault.Tie as tie
+
+-- its fields are in their ranges
+good-fields : (c : tie.Else1) → GoodHead (c .before .before .before .before .args .used) (c .before .before .before .before .args .row)
+good-fields c = head-found _ _ _ (sym (ap codeOf (c .before .before .head-fault .ensures)) ∙ (sym (c .before .code-of .ensures) ∙ c .if1 .left))
+
+-- its times lie within the table's
+room-of : (c : tie.Else1) → c .before .before .before .before .args .used + c .before .before .before .before .args .row .parts ≤ length (now (c .before .before .before .before .args .times))
+room-of c = omega (arith, good-fields c .room, c .before .before .before .before .pre .1)
+
+head-fault-requires : tie.Need-head-fault-requires
+head-fault-requires c κs = search needs
+
+code-of-requires : tie.Need-code-of-requires
+code-of-requires c κs = search needs
+
+returns : tie.Need-returns
+unfolding rowFault
+returns c = fault-stays (c .before .before .head-fault .ensures) (c .before .code-of .ensures) _ (c .if1 .taken)
+
+cast-e : tie.Need-cast-e
+cast-e c = search needs
+
+add-e : tie.Need-add-e
+add-e c = search needs
+
+mul-times-fault : tie.Need-mul-times-fault
+mul-times-fault c = search needs
+
+sub-times-fault : tie.Need-sub-times-fault
+sub-times-fault c = search needs
+
+part-times-fault-start : tie.Need-part-times-fault-start
+part-times-fault-start c = search needs
+
+part-times-fault-end : tie.Need-part-times-fault-end
+part-times-fault-end c = omega (arith, room-of (c .before))
+
+times-fault-requires : tie.Need-times-fault-requires
+times-fault-requires c κs =
+    rw (part-length _ _ _ (room-of (c .before .before))) (good-fields (c .before .before) .parts .most)
+
+returns-2 : tie.Need-returns-2
+unfolding rowFault
+returns-2 c =
+    next-decides (c .before .before .before .before .before .head-fault .ensures) (c .before .before .before .before .code-of .ensures) (c .before .before .before .if1 .left)
+    (c .times-fault .ensures ∙ rw (part-length _ _ _ (room-of (c .before .before .before)), part-is))
+
+pub row-fault-spec : {M : Type 1} → statement M
+row-fault-spec =
+    tie.close
+    (tie.spec
+    head-fault-requires
+    code-of-requires
+    returns
+    cast-e
+    add-e
+    mul-times-fault
+    sub-times-fault
+    part-times-fault-start
+    part-times-fault-end
+    times-fault-requires
+    returns-2)

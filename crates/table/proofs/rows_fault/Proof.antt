@@ -1,0 +1,122 @@
+-- `table::rows_fault` meets its contract. The invariant: no row before row i has a fault. Assumes nothing.
+use Prim.Native.Nat.{ℕ, suc, _+_, _-_, _≤_, _<_}
+use native.Mathlib.Numerals.{add-one}
+use native.Mathlib.Omega.{arith}
+use borrow.Author.Needs.{needs}
+use mathlib.Core.Path.{_≡_, refl, sym, ap, _∙_}
+use mathlib.Core.List.{List}
+use lib.ListN.{length, getD, drop, drop-of-length-le, length-take}
+use lib.Seq.{drop-drop, length-take-le}
+use Rattle.table.specs.declared.Row.{Row}
+use Rattle.table.specs.declared.Table.{Table}
+use Rattle.table.specs.declared.Verdict.{Verdict}
+use Rattle.table.specs.declared.Verdict.the-variants.{Good}
+use Rattle.table.specs.Verdicts.{codeOf, _orElse_}
+use Rattle.table.specs.Memory.{zeroRow, usedRows}
+use Rattle.table.specs.Faults.{rowFault, rowsFault}
+use Rattle.table.proofs.Codes.{fault-stays, next-decides, first-good}
+use Rattle.table.proofs.Heads.{head-found}
+use Rattle.table.proofs.Rows.{length-mapped, used-more}
+use Rattle.table.proofs.rows_fault.Statement.{statement}
+use Rattle.table.proofs.rows_fault.Tie as tie
+
+record Looking (t : Table) (used i : ℕ) : Type 0 where
+  few : t .count ≤ length (t .rows)
+  upto : i ≤ t .count
+  room : used ≤ 1024
+  same : rowsFault 0 0 (usedRows t) (t .times) ≡ rowsFault i used (drop i (usedRows t)) (drop used (t .times))
+
+module _ {t : Table} {used i : ℕ} (l : Looking t used i) where
+  module _ (h : i < t .count) (v : Verdict) (k : ℕ)
+      (said : v ≡ rowFault i used (getD (t .rows) i zeroRow) (drop used (t .times))) (code : k ≡ codeOf v) where
+    row : Row
+    row = getD (t .rows) i zeroRow
+
+    step : rowsFault 0 0 (usedRows t) (t .times)
+        ≡ rowFault i used row (drop used (t .times)) orElse rowsFault (i + 1) (used + row .parts) (drop (i + 1) (usedRows t)) (drop (used + row .parts) (t .times))
+    unfolding rowsFault row
+    step = l .same ∙ rw (used-more (t .count) (t .rows) i h (l .few), drop-drop, add-one)
+
+    stops : (k ≡ 0 → ⊥) → v ≡ rowsFault 0 0 (usedRows t) (t .times)
+    unfolding row
+    stops f = fault-stays said code _ f ∙ sym step
+
+    fits : k ≡ 0 → used + getD (t .rows) i zeroRow .parts ≤ 1024
+    unfolding rowFault
+    fits e = head-found used i _ (first-good _ _ (sym (ap codeOf said) ∙ sym code ∙ e)) .room
+
+    turn : k ≡ 0 → Looking t (used + getD (t .rows) i zeroRow .parts) (i + 1)
+    unfolding row
+    turn e = record { few = l .few; upto = omega arith; room = fits e; same = step ∙ sym (next-decides said code e refl) }
+
+  ends : t .count ≤ i → Good ≡ rowsFault 0 0 (usedRows t) (t .times)
+  unfolding rowsFault
+  ends h =
+      let past : length (usedRows t) ≤ i = rw (length-take-le (t .count) (t .rows) (l .few)) h in
+      sym (l .same ∙ rw (drop-of-length-le (usedRows t) past))
+
+abbrev Inv-loop : tie.InvT-loop
+Inv-loop t n times used₀ i₀ used i = Looking t used i
+
+abbrev μ-loop : tie.MeasureT-loop
+μ-loop t n times used₀ i₀ used i = t .count - i
+
+loop-holds : tie.Need-loop-holds Inv-loop μ-loop
+loop-holds c =
+    let long : length (c .before .args .t1 .rows) ≡ 64 = search (needs, length-mapped) in
+    record { few = omega (arith, c .before .pre); upto = search needs; room = search needs; same = refl }
+
+mul-row : tie.Need-mul-row Inv-loop μ-loop
+mul-row c = omega arith
+
+element-copy-out-row : tie.Need-element-copy-out-row Inv-loop μ-loop
+element-copy-out-row c = omega (arith, c .before .before .before .pre)
+
+slice-aggregate-row-fault : tie.Need-slice-aggregate-row-fault Inv-loop μ-loop
+slice-aggregate-row-fault c = search needs
+
+row-fault-requires : tie.Need-row-fault-requires Inv-loop μ-loop
+row-fault-requires c κs = (c .before .before .before .loop .inv .room, search needs)
+
+code-of-requires : tie.Need-code-of-requires Inv-loop μ-loop
+code-of-requires c κs = search needs
+
+returns : tie.Need-returns Inv-loop μ-loop
+returns c =
+    stops (c .before .before .before .before .before .before .loop .inv) (c .before .before .before .before .before .loop-test .taken) _ _ (c .before .before .row-fault .ensures) (c .before .code-of .ensures) (c .if1 .taken)
+
+add-used : tie.Need-add-used Inv-loop μ-loop
+add-used c =
+    omega (arith, fits (c .before .before .before .before .before .before .before .loop .inv) (c .before .before .before .before .before .before .loop-test .taken) _ _ (c .before .before .before .row-fault .ensures) (c .before .before .code-of .ensures) (c .before .if1 .left))
+
+add-i : tie.Need-add-i Inv-loop μ-loop
+add-i c = omega arith
+
+loop-less : tie.Need-loop-less Inv-loop μ-loop
+loop-less c = omega arith
+
+loop-again : tie.Need-loop-again Inv-loop μ-loop
+loop-again c =
+    turn (c .before .before .before .before .before .before .before .loop .inv) (c .before .before .before .before .before .before .loop-test .taken) _ _ (c .before .before .before .row-fault .ensures) (c .before .before .code-of .ensures) (c .before .if1 .left)
+
+returns-2 : tie.Need-returns-2 Inv-loop μ-loop
+returns-2 c = ends (c .before .loop .inv) (c .loop-test .left)
+
+pub rows-fault-spec : {M : Type 1} → statement M
+rows-fault-spec =
+    tie.close
+    (tie.spec
+    Inv-loop
+    μ-loop
+    loop-holds
+    mul-row
+    element-copy-out-row
+    slice-aggregate-row-fault
+    row-fault-requires
+    code-of-requires
+    returns
+    add-used
+    add-i
+    loop-less
+    loop-again
+    returns-2)

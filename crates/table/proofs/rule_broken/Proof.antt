@@ -1,0 +1,51 @@
+-- `table::rule_broken` meets its contract. Assumes nothing.
+use Prim.Native.Nat.{ℕ, _≤_, _<_}
+use native.Mathlib.Omega.{arith}
+use borrow.Author.Needs.{needs}
+use borrow.Author.Tests.{lt-ltb, le-ltb}
+use mathlib.Core.Path.{_≡_, sym, _∙_}
+use mathlib.Core.List.{List}
+use lib.ListN.{length}
+use Rattle.table.specs.declared.Row.{Row}
+use Rattle.table.specs.declared.Rule.{Rule}
+use Rattle.table.specs.declared.Verdict.the-variants.{Good}
+use Rattle.table.specs.Memory.{usedRows}
+use Rattle.table.specs.Clash.{clash, breaks, named, broken}
+use Rattle.table.proofs.Rows.{length-mapped, used-length}
+use Rattle.table.proofs.rule_broken.Statement.{statement}
+use Rattle.table.proofs.rule_broken.Tie as tie
+
+module _ (rule : Rule) (rows : List Row) {row n : ℕ} (first : row ≡ clash (breaks rule) rows) (all : length rows ≡ n) where
+  hit : row < n → named rule row ≡ broken rule rows
+  unfolding broken
+  hit h = rw (← first, lt-ltb row (length rows) (omega arith))
+
+  none : n ≤ row → Good ≡ broken rule rows
+  unfolding broken
+  none h = rw (← first, le-ltb row (length rows) (omega arith))
+
+first-clash-requires : tie.Need-first-clash-requires
+first-clash-requires c κs = search needs
+
+rows-used-requires : tie.Need-rows-used-requires
+rows-used-requires c κs = search needs
+
+verdict-on-requires : tie.Need-verdict-on-requires
+verdict-on-requires c κs = search needs
+
+-- as many rows as were counted
+all-of : (c : tie.After-rows-used) → length (usedRows (c .before .before .args .t)) ≡ c .rows-used .result
+all-of c =
+    let t = c .before .before .args .t in
+    let long : length (t .rows) ≡ 64 = search (needs, length-mapped) in
+    used-length (t .count) (t .rows) long ∙ sym (c .rows-used .ensures)
+
+returns : tie.Need-returns
+returns c = c .verdict-on .ensures ∙ hit _ _ (c .before .before .before .first-clash .ensures) (all-of (c .before .before)) (c .before .if1 .taken)
+
+returns-2 : tie.Need-returns-2
+returns-2 c = none _ _ (c .before .before .first-clash .ensures) (all-of (c .before)) (c .if1 .left)
+
+pub rule-broken-spec : {M : Type 1} → statement M
+rule-broken-spec =
+    tie.close (tie.spec first-clash-requires rows-used-requires verdict-on-requires returns returns-2)

@@ -1,0 +1,5 @@
+pub mod Verdicts
+pub mod Fields
+pub mod Memory
+pub mod Clash
+pub mod Faults

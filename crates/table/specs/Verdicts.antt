@@ -1,0 +1,47 @@
+-- Document 01, "Codes and what they leave": the code of each verdict and the number carried.
+use Prim.Native.Nat.{ℕ}
+use mathlib.Core.Bool.{Bool}
+use lib.Dec.{eqb}
+use Rattle.lists.specs.Lists.{pick}
+use Rattle.table.specs.declared.Verdict.{Verdict}
+use Rattle.table.specs.declared.Verdict.the-variants.{Good, EndsEarly, Malformed, OutOfRange, IdTwice, PriorityTwice}
+use Rattle.table.specs.declared.Verdict.the-variants.{KindsCrossed, TooManyTimes, Trailing, NoSuchCore, NoRoom, NoWindow, Missed}
+
+abbrev pub codeOf : Verdict → ℕ
+codeOf Good = 0
+codeOf (EndsEarly n) = 1
+codeOf (Malformed n) = 2
+codeOf (OutOfRange n) = 3
+codeOf (IdTwice n) = 4
+codeOf (PriorityTwice n) = 5
+codeOf (KindsCrossed n) = 6
+codeOf (TooManyTimes n) = 7
+codeOf (Trailing n) = 8
+codeOf (NoSuchCore n) = 9
+codeOf (NoRoom n) = 10
+codeOf (NoWindow n) = 11
+codeOf (Missed n) = 12
+
+abbrev pub numberOf : Verdict → ℕ
+numberOf Good = 0
+numberOf (EndsEarly n) = n
+numberOf (Malformed n) = n
+numberOf (OutOfRange n) = n
+numberOf (IdTwice n) = n
+numberOf (PriorityTwice n) = n
+numberOf (KindsCrossed n) = n
+numberOf (TooManyTimes n) = n
+numberOf (Trailing n) = n
+numberOf (NoSuchCore n) = n
+numberOf (NoRoom n) = n
+numberOf (NoWindow n) = n
+numberOf (Missed n) = n
+
+unfoldable pub good : Verdict → Bool
+good v = eqb (codeOf v) 0
+
+-- a fault; where there is none, what comes after it
+unfoldable pub _orElse_ : Verdict → Verdict → Verdict
+v orElse w = pick (good v) w v
+
+infixr 20 _orElse_

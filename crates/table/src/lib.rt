@@ -1,0 +1,375 @@
+ghost use mathlib.Core.Path.{_≡_};
+ghost use mathlib.Core.List.{[]};
+ghost use Prim.Native.Nat.{_≤_, min};
+ghost use lib.ListN.{length, drop, replicate};
+ghost use Rattle.table.specs.Verdicts.{codeOf, numberOf};
+ghost use Rattle.table.specs.Fields.{head, time, want, wanted, Ranges, leftAfter, judge, faultIn, fieldsOf, rowFrom};
+ghost use Rattle.table.specs.Memory.{stored, usedRows};
+ghost use Rattle.table.specs.Clash.{breaks, coopAbove, clash, broken, named, clashOf};
+ghost use Rattle.table.specs.Faults.{rowFault, rowsFault, faultOf};
+
+// One row of the table; its times stand apart.
+pub struct Row {
+    pub id: u32,
+    pub core: u32,
+    pub kind: u32,
+    pub priority: u32,
+    pub period: u32,
+    pub deadline: u32,
+    pub parts: u32,
+}
+
+// The table: `count` rows are used, and their times stand one after another.
+pub struct Table {
+    pub count: usize,
+    pub rows: [Row; 64],
+    pub times: [u32; 1024],
+}
+
+// What is said of a file, a core or a table: 01's codes, each with the number it carries.
+pub enum Verdict {
+    Good,
+    EndsEarly(usize),
+    Malformed(usize),
+    OutOfRange(usize),
+    IdTwice(usize),
+    PriorityTwice(usize),
+    KindsCrossed(usize),
+    TooManyTimes(usize),
+    Trailing(usize),
+    NoSuchCore(usize),
+    NoRoom(usize),
+    NoWindow(usize),
+    Missed(usize),
+}
+
+// The rules over two rows: codes 4, 5 and 6.
+pub enum Rule {
+    SameId,
+    SamePriority,
+    KindsCrossed,
+}
+
+// The code that 01 gives for a verdict.
+pub fn code_of(v: Verdict) -> u32
+    ensures { λ r. ⌜ r ≡ codeOf v ⌝ }
+{
+    match v {
+        Verdict::Good => 0,
+        Verdict::EndsEarly(_) => 1,
+        Verdict::Malformed(_) => 2,
+        Verdict::OutOfRange(_) => 3,
+        Verdict::IdTwice(_) => 4,
+        Verdict::PriorityTwice(_) => 5,
+        Verdict::KindsCrossed(_) => 6,
+        Verdict::TooManyTimes(_) => 7,
+        Verdict::Trailing(_) => 8,
+        Verdict::NoSuchCore(_) => 9,
+        Verdict::NoRoom(_) => 10,
+        Verdict::NoWindow(_) => 11,
+        Verdict::Missed(_) => 12,
+    }
+}
+
+// The number that a verdict carries.
+pub fn number_of(v: Verdict) -> usize
+    ensures { λ r. ⌜ r ≡ numberOf v ⌝ }
+{
+    match v {
+        Verdict::Good => 0,
+        Verdict::EndsEarly(n)
+        | Verdict::Malformed(n)
+        | Verdict::OutOfRange(n)
+        | Verdict::IdTwice(n)
+        | Verdict::PriorityTwice(n)
+        | Verdict::KindsCrossed(n)
+        | Verdict::TooManyTimes(n)
+        | Verdict::Trailing(n)
+        | Verdict::NoSuchCore(n)
+        | Verdict::NoRoom(n)
+        | Verdict::NoWindow(n)
+        | Verdict::Missed(n) => n,
+    }
+}
+
+// The seven fields of a row before its times, in file order: the least value of each.
+pub const LOW: [u32; 7] = [
+    1, // id
+    0, // core
+    0, // type: 0 preemptive, 1 cooperative
+    1, // priority
+    1, // period
+    1, // deadline
+    1, // part count
+];
+
+// The largest value of each.
+pub const HIGH: [u32; 7] = [
+    65535, // id
+    3, // core
+    1, // type
+    255, // priority
+    16777215, // period
+    16777215, // deadline
+    64, // part count
+];
+
+// How large each may be where `used` of the 1,024 times are taken: only the part count has less than its range.
+pub fn left_after(used: u32) -> [u32; 7]
+    ensures { λ r. ⌜ r ≡ leftAfter used ⌝ }
+{
+    let mut left = HIGH;
+    if 1024 < used {
+        left[6] = 0;
+        return left;
+    }
+    left[6] = 1024 - used;
+    left
+}
+
+// The fields of a row, in file order.
+pub fn fields_of(row: Row) -> [u32; 7]
+    ensures { λ r. ⌜ r ≡ fieldsOf row ⌝ }
+{
+    [
+        row.id,
+        row.core,
+        row.kind,
+        row.priority,
+        row.period,
+        row.deadline,
+        row.parts,
+    ]
+}
+
+// The row of these fields.
+pub fn row_of(fields: [u32; 7]) -> Row
+    ensures { λ r. ⌜ r ≡ rowFrom fields ⌝ }
+{
+    Row {
+        id: fields[0],
+        core: fields[1],
+        kind: fields[2],
+        priority: fields[3],
+        period: fields[4],
+        deadline: fields[5],
+        parts: fields[6],
+    }
+}
+
+// A number's own fault: 3, then 7, with the number that it carries.
+pub fn number_fault(n: u32, low: u32, high: u32, left: u32, carried: usize) -> Verdict
+    ensures { λ r. ⌜ r ≡ judge (want low high left) carried n ⌝ }
+{
+    if n < low {
+        return Verdict::OutOfRange(carried);
+    }
+    if high < n {
+        return Verdict::OutOfRange(carried);
+    }
+    if left < n {
+        return Verdict::TooManyTimes(carried);
+    }
+    Verdict::Good
+}
+
+// A table with no rows: all zeros.
+pub fn zeros() -> Table
+    ensures { λ r. ⌜ r ≡ stored [] ⌝ }
+{
+    let row = row_of([0u32; 7]);
+    let rows = [row; 64];
+    let times = [0u32; 1024];
+    Table {
+        count: 0,
+        rows,
+        times,
+    }
+}
+
+// How many rows there are to look at: at most 64, whatever the count says.
+fn rows_used(count: usize) -> usize
+    ensures { λ r. ⌜ r ≡ min count 64 ⌝ }
+{
+    if 64 < count {
+        return 64;
+    }
+    count
+}
+
+// Whether the first row is cooperative, the second preemptive, and the first higher.
+fn coop_above(a: Row, b: Row) -> bool
+    ensures { λ r. ⌜ r ≡ coopAbove a b ⌝ }
+{
+    if a.kind == 1 {
+        if b.kind == 0 {
+            return b.priority < a.priority;
+        }
+    }
+    false
+}
+
+// Whether a row breaks a rule with an earlier one.
+fn breaks_rule(rule: Rule, row: Row, earlier: Row) -> bool
+    ensures { λ r. ⌜ r ≡ breaks rule row earlier ⌝ }
+{
+    match rule {
+        Rule::SameId => earlier.id == row.id,
+        Rule::SamePriority => earlier.core == row.core && earlier.priority == row.priority,
+        Rule::KindsCrossed => {
+            if earlier.core == row.core {
+                if coop_above(row, earlier) {
+                    return true;
+                }
+                return coop_above(earlier, row);
+            }
+            false
+        }
+    }
+}
+
+// The first row that breaks a rule with an earlier one, or the number of rows where there is none.
+fn first_clash(t: Table, rule: Rule) -> usize
+    ensures { λ r. ⌜ r ≡ clash (breaks rule) (usedRows t) ⌝ }
+{
+    let n = rows_used(t.count);
+    let mut i = 0;
+    'rows: while i < n {
+        let row = t.rows[i];
+        let mut j = 0;
+        while j < i {
+            let earlier = t.rows[j];
+            if breaks_rule(rule, row, earlier) {
+                break 'rows;
+            }
+            j += 1;
+        }
+        i += 1;
+    }
+    i
+}
+
+// The code of a rule, with the row.
+fn verdict_on(rule: Rule, row: usize) -> Verdict
+    ensures { λ r. ⌜ r ≡ named rule row ⌝ }
+{
+    match rule {
+        Rule::SameId => Verdict::IdTwice(row),
+        Rule::SamePriority => Verdict::PriorityTwice(row),
+        Rule::KindsCrossed => Verdict::KindsCrossed(row),
+    }
+}
+
+// What one rule says of the whole table.
+fn rule_broken(t: Table, rule: Rule) -> Verdict
+    ensures { λ r. ⌜ r ≡ broken rule (usedRows t) ⌝ }
+{
+    let row = first_clash(t, rule);
+    if row < rows_used(t.count) {
+        return verdict_on(rule, row);
+    }
+    Verdict::Good
+}
+
+// The rules over the whole table: 4, then 5, then 6.
+pub fn clash_of(t: Table) -> Verdict
+    ensures { λ r. ⌜ r ≡ clashOf (usedRows t) ⌝ }
+{
+    let ids = rule_broken(t, Rule::SameId);
+    if code_of(ids) != 0 {
+        return ids;
+    }
+    let priorities = rule_broken(t, Rule::SamePriority);
+    if code_of(priorities) != 0 {
+        return priorities;
+    }
+    rule_broken(t, Rule::KindsCrossed)
+}
+
+// The first fault of numbers one after another, each with what it may be.
+fn first_fault(numbers: &[u32], low: &[u32], high: &[u32], left: &[u32], carried: usize) -> Verdict
+    requires { ⌜ Ranges (length (now numbers)) (now low) (now high) (now left) ⌝ }
+    ensures { λ r. ⌜ r ≡ faultIn (wanted (now (low .entry)) (now (high .entry)) (now (left .entry))) carried (now (numbers .entry)) ⌝ }
+{
+    let mut i = 0;
+    while i < numbers.len() {
+        let v = number_fault(numbers[i], low[i], high[i], left[i], carried);
+        if code_of(v) != 0 {
+            return v;
+        }
+        i += 1;
+    }
+    Verdict::Good
+}
+
+// The first fault of row i's fields before its times, with `used` times before it.
+fn head_fault(row: Row, used: u32, i: usize) -> Verdict
+    ensures { λ r. ⌜ r ≡ faultIn (head used) i (fieldsOf row) ⌝ }
+{
+    let fields = fields_of(row);
+    let low = LOW;
+    let high = HIGH;
+    let left = left_after(used);
+    first_fault(&fields, &low, &high, &left, i)
+}
+
+// The first fault of row i's times.
+fn times_fault(times: &[u32], i: usize) -> Verdict
+    requires { ⌜ length (now times) ≤ 64 ⌝ }
+    ensures { λ r. ⌜ r ≡ faultIn (replicate (length (now (times .entry))) time) i (now (times .entry)) ⌝ }
+{
+    let n = times.len();
+    let low = [1u32; 64];
+    let high = [16777215u32; 64];
+    let left = [16777215u32; 64];
+    first_fault(times, &low[..n], &high[..n], &left[..n], i)
+}
+
+// The first fault of row i, whose times begin at `used`.
+fn row_fault(row: Row, used: u32, i: usize, times: &[u32]) -> Verdict
+    requires { ⌜ (used ≤ 1024) × (length (now times) ≡ 1024) ⌝ }
+    ensures { λ r. ⌜ r ≡ rowFault i used row (drop used (now (times .entry))) ⌝ }
+{
+    let fields = head_fault(row, used, i);
+    if code_of(fields) != 0 {
+        return fields;
+    }
+    let a = used as usize;
+    let e = a + row.parts as usize;
+    times_fault(&times[a..e], i)
+}
+
+// The first fault of the rows, one by one.
+fn rows_fault(t: Table) -> Verdict
+    requires { ⌜ t .count ≤ 64 ⌝ }
+    ensures { λ r. ⌜ r ≡ rowsFault 0 0 (usedRows t) (t .times) ⌝ }
+{
+    let n = t.count;
+    let times = t.times;
+    let mut used: u32 = 0;
+    let mut i = 0;
+    while i < n {
+        let row = t.rows[i];
+        let v = row_fault(row, used, i, &times);
+        if code_of(v) != 0 {
+            return v;
+        }
+        used += row.parts;
+        i += 1;
+    }
+    Verdict::Good
+}
+
+// What stands against writing a table: its row count, its rows one by one, then the rules over all of it.
+pub fn fault_of(t: Table) -> Verdict
+    ensures { λ r. ⌜ r ≡ faultOf t ⌝ }
+{
+    if 64 < t.count {
+        return Verdict::OutOfRange(64);
+    }
+    let rows = rows_fault(t);
+    if code_of(rows) != 0 {
+        return rows;
+    }
+    clash_of(t)
+}
