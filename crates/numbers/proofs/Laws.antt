@@ -78,6 +78,20 @@ encode-some n = go (ltb n 128)
     go true = omega arith
     go false = omega arith
 
+-- and no more than five
+encode-in-few : (k n : ℕ) → length (encodeIn k n) ≤ k
+unfolding encodeIn
+encode-in-few zero n = omega arith
+encode-in-few (suc k) n = go (ltb n 128) (encode-in-few k (n / 128))
+  where
+    go : (t : Bool) → length (encodeIn k (n / 128)) ≤ k → length (pick t (n ∷ []) ((128 + n % 128) ∷ encodeIn k (n / 128))) ≤ suc k
+    go true h = omega arith
+    go false h = omega arith
+
+pub encode-few : (n : ℕ) → length (encode n) ≤ 5
+unfolding encode
+encode-few n = encode-in-few 5 n
+
 -- the numbers from a place on: the first and the rest, or nothing
 pub encode-all-more : (ns : List ℕ) (i : ℕ) → i < length ns
     → encodeAll (drop i ns) ≡ encode (getD ns i 0) ++ encodeAll (drop (i + 1) ns)

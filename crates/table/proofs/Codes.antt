@@ -15,6 +15,10 @@ pub is-good : (v : Verdict) → codeOf v ≡ 0 → good v ≡ true
 unfolding good
 is-good v e = eq-eqb (codeOf v) 0 e
 
+pub good-code : (v : Verdict) → good v ≡ true → codeOf v ≡ 0
+unfolding good
+good-code v t = eqb→eq (codeOf v) 0 (rw t tt)
+
 pub is-fault : (v : Verdict) → (codeOf v ≡ 0 → ⊥) → good v ≡ false
 unfolding good
 is-fault v h = ne-eqb (codeOf v) 0 h
@@ -26,7 +30,7 @@ or-good v w e = rw (is-good v e)
 
 pub first-good : (v w : Verdict) → codeOf (v orElse w) ≡ 0 → codeOf v ≡ 0
 unfolding _orElse_ good
-first-good v w e = by-test (good v) (λ t. eqb→eq (codeOf v) 0 (rw t tt)) (λ f. rw f at e)
+first-good v w e = by-test (good v) (good-code v) (λ f. rw f at e)
 
 pub then-good : (v w : Verdict) → codeOf (v orElse w) ≡ 0 → codeOf w ≡ 0
 then-good v w e = rw (or-good v w (first-good v w e)) at e

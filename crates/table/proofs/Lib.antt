@@ -4,3 +4,6 @@ pub mod Ranges
 pub mod Fine
 pub mod Heads
 pub mod Rows
+pub mod Stored
+pub mod GoodTasks
+pub mod Seven

@@ -21,7 +21,19 @@ wanted-drop (suc i) (l ∷ low) [] left p q = absurd (omega arith)
 wanted-drop (suc i) (l ∷ low) (h ∷ high) [] p q = absurd (omega arith)
 wanted-drop (suc i) (l ∷ low) (h ∷ high) (f ∷ left) p q = wanted-drop i low high left (omega arith) (omega arith)
 
+-- as many ranges as each list has
+pub wanted-length : (low high left : List ℕ) → length low ≡ length high → length low ≡ length left
+    → length (wanted low high left) ≡ length low
+unfolding wanted
+wanted-length [] high left p q = refl
+wanted-length (l ∷ low) [] left p q = absurd (omega arith)
+wanted-length (l ∷ low) (h ∷ high) [] p q = absurd (omega arith)
+wanted-length (l ∷ low) (h ∷ high) (f ∷ left) p q = ap suc (wanted-length low high left (omega arith) (omega arith))
+
 module _ {n : ℕ} {low high left : List ℕ} (r : Ranges n low high left) where
+  pub wanted-count : length (wanted low high left) ≡ n
+  wanted-count = wanted-length low high left (omega (arith, r .lows, r .highs)) (omega (arith, r .lows, r .lefts)) ∙ r .lows
+
   -- one range more
   pub wanted-more : (i : ℕ) → i < n
       → drop i (wanted low high left) ≡ want (getD low i 0) (getD high i 0) (getD left i 0) ∷ drop (i + 1) (wanted low high left)

@@ -3,10 +3,12 @@ use Prim.Native.Nat.{ℕ, _+_, min, _≤_, _<_}
 use native.Mathlib.Numerals.{add-one}
 use mathlib.Core.Path.{_≡_, sym, ap, _∙_}
 use mathlib.Core.List.{List, _∷_, map}
-use lib.Seq.{getD-take, drop-cons, length-take-le}
+use lib.Seq.{getD-take, drop-cons, drop-drop, length-take-le}
 use Rattle.table.specs.declared.Row.{Row}
 use lib.ListN.{length, getD, take, drop, length-map, length-take}
+use Rattle.table.specs.Verdicts.{_orElse_}
 use Rattle.table.specs.Memory.{zeroRow}
+use Rattle.table.specs.Faults.{rowFault, rowsFault}
 
 -- an array of structs has its length
 pub length-mapped : (X Y : Type 0) (f : X → Y) (l : List X) (n : ℕ) → length (map f l) ≡ n → length l ≡ n
@@ -26,3 +28,10 @@ pub used-more : (count : ℕ) (rows : List Row) (i : ℕ) → i < count → coun
 used-more count rows i h long =
     let inside : i < length (take count rows) = rw (length-take-le count rows long) h in
     drop-cons (take count rows) i zeroRow inside ∙ rw (used-row count rows i h, add-one)
+
+-- the faults from row i on: those of row i, then those of the others
+pub faults-more : (rows : List Row) (r : Row) (times : List ℕ) (i used : ℕ) → drop i rows ≡ r ∷ drop (i + 1) rows
+    → rowsFault i used (drop i rows) (drop used times)
+    ≡ rowFault i used r (drop used times) orElse rowsFault (i + 1) (used + r .parts) (drop (i + 1) rows) (drop (used + r .parts) times)
+unfolding rowsFault
+faults-more rows r times i used next = rw (next, drop-drop, add-one)

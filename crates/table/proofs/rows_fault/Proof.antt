@@ -1,12 +1,11 @@
 -- `table::rows_fault` meets its contract. The invariant: no row before row i has a fault. Assumes nothing.
 use Prim.Native.Nat.{ℕ, suc, _+_, _-_, _≤_, _<_}
-use native.Mathlib.Numerals.{add-one}
 use native.Mathlib.Omega.{arith}
 use borrow.Author.Needs.{needs}
 use mathlib.Core.Path.{_≡_, refl, sym, ap, _∙_}
 use mathlib.Core.List.{List}
 use lib.ListN.{length, getD, drop, drop-of-length-le, length-take}
-use lib.Seq.{drop-drop, length-take-le}
+use lib.Seq.{length-take-le}
 use Rattle.table.specs.declared.Row.{Row}
 use Rattle.table.specs.declared.Table.{Table}
 use Rattle.table.specs.declared.Verdict.{Verdict}
@@ -16,7 +15,7 @@ use Rattle.table.specs.Memory.{zeroRow, usedRows}
 use Rattle.table.specs.Faults.{rowFault, rowsFault}
 use Rattle.table.proofs.Codes.{fault-stays, next-decides, first-good}
 use Rattle.table.proofs.Heads.{head-found}
-use Rattle.table.proofs.Rows.{length-mapped, used-more}
+use Rattle.table.proofs.Rows.{length-mapped, used-more, faults-more}
 use Rattle.table.proofs.rows_fault.Statement.{statement}
 use Rattle.table.proofs.rows_fault.Tie as tie
 
@@ -33,9 +32,10 @@ module _ {t : Table} {used i : ℕ} (l : Looking t used i) where
     row = getD (t .rows) i zeroRow
 
     step : rowsFault 0 0 (usedRows t) (t .times)
-        ≡ rowFault i used row (drop used (t .times)) orElse rowsFault (i + 1) (used + row .parts) (drop (i + 1) (usedRows t)) (drop (used + row .parts) (t .times))
-    unfolding rowsFault row
-    step = l .same ∙ rw (used-more (t .count) (t .rows) i h (l .few), drop-drop, add-one)
+        ≡ rowFault i used row (drop used (t .times))
+        orElse rowsFault (i + 1) (used + row .parts) (drop (i + 1) (usedRows t)) (drop (used + row .parts) (t .times))
+    unfolding row
+    step = l .same ∙ faults-more (usedRows t) row (t .times) i used (used-more (t .count) (t .rows) i h (l .few))
 
     stops : (k ≡ 0 → ⊥) → v ≡ rowsFault 0 0 (usedRows t) (t .times)
     unfolding row

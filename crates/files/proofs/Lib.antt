@@ -1,0 +1,10 @@
+pub mod Back
+pub mod RoundTrips
+pub mod RowBytes
+pub mod Short
+pub mod Sizes
+pub mod Steps
+pub mod Stops
+pub mod Taken
+pub mod Trip
+pub mod Unused

@@ -1,0 +1,107 @@
+-- Reading stops only at a fault: a good answer is that of tasks that were read. Assumes nothing.
+use Prim.Native.Nat.{ℕ, zero, suc}
+use native.Mathlib.Omega.{arith}
+use mathlib.Core.Path.{_≡_, refl, ap, _∙_}
+use mathlib.Core.Bool.{Bool, true, false}
+use mathlib.Core.List.{List, [], _∷_, _++_, map}
+use lib.ListN.{length, replicate}
+use lib.Dec.{ltb}
+use Rattle.lists.specs.Lists.{pick}
+use Rattle.lists.proofs.Tests.{by-test}
+use Rattle.numbers.specs.Numbers.{numberAt}
+use Rattle.numbers.specs.declared.Number.{Number}
+use Rattle.numbers.specs.declared.Number.the-variants as N
+use Rattle.model.specs.Task.{Task}
+use Rattle.table.specs.declared.Verdict.{Verdict}
+use Rattle.table.specs.declared.Verdict.the-variants.{Good, Trailing}
+use Rattle.table.specs.Verdicts.{good}
+use Rattle.table.specs.Fields.{Wanted, field, head, time, rowFrom, judge}
+use Rattle.table.specs.Memory.{rowOf, taskOf, allTimes}
+use Rattle.table.specs.Clash.{clashOf}
+use Rattle.files.specs.Reading.{Step, stop, go, _then_, unless, asked, fieldAt, fieldsAt, rowAt, rowsAt, endAt, decode, loaded, readAnswer}
+
+-- a step that, if it stops, does so at a fault
+unfoldable AtFault : {A : Type 0} → Step A → Type 0
+AtFault (stop v) = good v ≡ false
+AtFault (go a n) = Unit {0}
+
+module _ {A : Type 0} where
+  -- going on
+  go-stops : (a : A) (n : ℕ) → AtFault (go a n)
+  unfolding AtFault
+  go-stops a n = tt
+
+  -- first one thing, then another
+  then-stops : {B : Type 0} (x : Step A) (f : A → ℕ → Step B) → AtFault x → ((a : A) (n : ℕ) → AtFault (f a n)) → AtFault (x then f)
+  unfolding _then_ AtFault
+  then-stops (stop v) f h g = h
+  then-stops (go a n) f h g = g a n
+
+  -- unless the verdict is good
+  unless-stops : (v : Verdict) (a : A) (n : ℕ) → AtFault (unless v a n)
+  unfolding unless AtFault
+  unless-stops v a n = by-test (good v) (λ t. rw t tt) (λ f. rw f f)
+
+-- a number
+field-stops : (w : Wanted) (s : List ℕ) (at : ℕ) → AtFault (fieldAt w s at)
+unfolding fieldAt
+field-stops w s at = of-number (numberAt s at)
+  where
+    of-number : (x : Number) → AtFault (asked w s at x)
+    of-number (N.Got v n) = unfold asked in unless-stops (judge w at v) v n
+    of-number N.EndsEarly = unfold asked AtFault good in refl
+    of-number N.Malformed = unfold asked AtFault good in refl
+
+-- numbers one after another
+fields-stop : (ws : List Wanted) (done s : List ℕ) (at : ℕ) → AtFault (fieldsAt ws done s at)
+unfolding fieldsAt
+fields-stop [] done s at = go-stops done at
+fields-stop (w ∷ ws) done s at = then-stops (fieldAt w s at) _ (field-stops w s at) (λ v n. fields-stop ws (done ++ (v ∷ [])) s n)
+
+-- a row
+row-stops : (used : ℕ) (s : List ℕ) (at : ℕ) → AtFault (rowAt used s at)
+unfolding rowAt
+row-stops used s at =
+    then-stops (fieldsAt (head used) [] s at) _ (fields-stop (head used) [] s at)
+    (λ fields m. then-stops (fieldsAt (replicate (rowFrom fields .parts) time) [] s m) _ (fields-stop _ [] s m)
+    (λ times n. go-stops (taskOf (rowFrom fields) times) n))
+
+-- rows one after another
+rows-stop : (k : ℕ) (done : List Task) (s : List ℕ) (at : ℕ) → AtFault (rowsAt k done s at)
+unfolding rowsAt
+rows-stop zero done s at = go-stops done at
+rows-stop (suc k) done s at =
+    then-stops (rowAt (length (allTimes done)) s at) _ (row-stops (length (allTimes done)) s at) (λ t n. rows-stop k (done ++ (t ∷ [])) s n)
+
+-- the end
+end-stops : (s : List ℕ) (ts : List Task) (at : ℕ) → AtFault (endAt s ts at)
+unfolding endAt
+end-stops s ts at = of-test (ltb at (length s))
+  where
+    of-test : (b : Bool) → AtFault (pick b (stop (Trailing at)) (unless (clashOf (map rowOf ts)) ts at))
+    of-test true = unfold AtFault good in refl
+    of-test false = unless-stops (clashOf (map rowOf ts)) ts at
+
+-- the whole file
+file-stops : (s : List ℕ) → AtFault (decode s)
+unfolding decode
+file-stops s =
+    then-stops (fieldAt (field 0 64) s 0) _ (field-stops (field 0 64) s 0)
+    (λ count at. then-stops (rowsAt count [] s at) _ (rows-stop count [] s at) (λ ts n. end-stops s ts n))
+
+-- the tasks that a good answer is about
+pub record Tasks (s : List ℕ) : Type 0 where
+  pub tasks : List Task
+  pub next : ℕ
+  pub same : decode s ≡ go tasks next
+
+-- a good answer is about some
+pub good-tasks : (s : List ℕ) → readAnswer s .verdict ≡ Good → Tasks s
+unfolding readAnswer AtFault
+good-tasks s e = of-step (decode s) refl (file-stops s) e
+  where
+    of-step : (x : Step (List Task)) → decode s ≡ x → AtFault x → loaded x .verdict ≡ Good → Tasks s
+    of-step (stop v) p h q =
+        let fine : good v ≡ true = ap good q ∙ unfold good in refl in
+        absurd (let z : _≡_ {A = ℕ} 0 1 = cc in omega arith)
+    of-step (go ts n) p h q = record { tasks = ts; next = n; same = p }

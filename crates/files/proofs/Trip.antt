@@ -1,0 +1,93 @@
+-- The file that good tasks are written as is read back as those tasks. Assumes nothing.
+use Prim.Native.Nat.{ℕ, _+_, _^_, _<_}
+use native.Mathlib.Nat.{add-zero}
+use native.Mathlib.Omega.{arith}
+use borrow.Author.Tests.{le-ltb}
+use mathlib.Core.Path.{_≡_, sym, ap, ap₂, _∙_}
+use mathlib.Core.List.{List, [], _∷_, _++_, map, append-assoc, append-nil}
+use lib.ListN.{length, drop, length-append}
+use Rattle.numbers.specs.Numbers.{encode, encodeAll}
+use Rattle.numbers.proofs.RoundTrip.{read-here, next-here}
+use Rattle.model.specs.Task.{Task}
+use Rattle.table.specs.Verdicts.{good}
+use Rattle.table.specs.Fields.{Wanted, field, head, fieldsOf}
+use Rattle.table.specs.Memory.{rowOf, allTimes}
+use Rattle.table.specs.Clash.{clashOf}
+use Rattle.table.proofs.Codes.{is-good}
+use Rattle.table.proofs.Fine.{Fine, AllFine, fine-good}
+use Rattle.table.proofs.Stored.{all-times-snoc}
+use Rattle.table.proofs.GoodTasks.{FineTask, FineTasks, GoodTasks}
+use Rattle.files.specs.Reading.{go, _then_, unless, asked, fieldAt, fieldsAt, rowAt, rowsAt, endAt, decode}
+use Rattle.files.specs.Writing.{encodeFile}
+use Rattle.files.proofs.RowBytes.{rowBytes, rowsBytes, rows-none, rows-more, file-parts}
+use Rattle.files.proofs.Sizes.{Four, four-head, four-times}
+
+-- a number that may stand there and stands there is read
+field-here : (w : Wanted) (v : ℕ) (s rest : List ℕ) (at : ℕ) → w .high < 128 ^ 4 → Fine w v → drop at s ≡ encode v ++ rest
+    → fieldAt w s at ≡ go v (at + length (encode v))
+unfolding fieldAt asked unless good
+field-here w v s rest at small f here =
+    ap (asked w s at) (read-here s rest at v (omega (arith, f .most)) here) ∙ rw (fine-good w at v f)
+
+-- numbers one after another
+fields-here : (ws : List Wanted) (ns done s rest : List ℕ) (at : ℕ) → Four ws → AllFine ws ns → drop at s ≡ encodeAll ns ++ rest
+    → fieldsAt ws done s at ≡ go (done ++ ns) (at + length (encodeAll ns))
+unfolding Four AllFine encodeAll fieldsAt _then_
+fields-here [] [] done s rest at four f here = ap₂ go (sym (append-nil done)) (sym (add-zero at))
+fields-here [] (n ∷ ns) done s rest at four f here = absurd f
+fields-here (w ∷ ws) [] done s rest at four f here = absurd f
+fields-here (w ∷ ws) (n ∷ ns) done s rest at four f here =
+    let first : drop at s ≡ encode n ++ (encodeAll ns ++ rest) = here ∙ append-assoc (encode n) (encodeAll ns) rest in
+    let others : drop (at + length (encode n)) s ≡ encodeAll ns ++ rest = next-here s (encode n) (encodeAll ns ++ rest) at first in
+    rw (field-here w n s (encodeAll ns ++ rest) at (four .0) (f .0) first)
+    (fields-here ws ns (done ++ (n ∷ [])) s rest (at + length (encode n)) (four .1) (f .1) others
+    ∙ ap₂ go (append-assoc done (n ∷ []) ns) (rw length-append (omega arith)))
+
+-- a row: its fields, then its times
+row-here : (used : ℕ) (t : Task) (s rest : List ℕ) (at : ℕ) → FineTask used t → drop at s ≡ rowBytes t ++ rest
+    → rowAt used s at ≡ go t (at + length (rowBytes t))
+unfolding rowAt rowBytes _then_
+row-here used t s rest at f here =
+    let fields = encodeAll (fieldsOf (rowOf t)) in
+    let times = encodeAll (t .times) in
+    let first : drop at s ≡ fields ++ (times ++ rest) = here ∙ append-assoc fields times rest in
+    let others : drop (at + length fields) s ≡ times ++ rest = next-here s fields (times ++ rest) at first in
+    rw (
+      fields-here (head used) (fieldsOf (rowOf t)) [] s (times ++ rest) at (four-head used) (f .fields) first,
+      fields-here _ (t .times) [] s rest (at + length fields) (four-times (length (t .times))) (f .times) others,
+    )
+    (ap (go t) (rw (length-append fields times) (omega arith)))
+
+-- rows one after another
+rows-here : (ts done : List Task) (s rest : List ℕ) (at : ℕ) → FineTasks (length (allTimes done)) ts → drop at s ≡ rowsBytes ts ++ rest
+    → rowsAt (length ts) done s at ≡ go (done ++ ts) (at + length (rowsBytes ts))
+unfolding FineTasks rowsAt _then_
+rows-here [] done s rest at f here = ap₂ go (sym (append-nil done)) (rw (rows-none, add-zero))
+rows-here (t ∷ ts) done s rest at f here =
+    let first : drop at s ≡ rowBytes t ++ (rowsBytes ts ++ rest)
+    = here ∙ ap (λ (l : List ℕ). l ++ rest) (rows-more t ts) ∙ append-assoc (rowBytes t) (rowsBytes ts) rest in
+    let others : drop (at + length (rowBytes t)) s ≡ rowsBytes ts ++ rest = next-here s (rowBytes t) (rowsBytes ts ++ rest) at first in
+    let before : length (allTimes done) + length (t .times) ≡ length (allTimes (done ++ (t ∷ [])))
+    = sym (ap length (all-times-snoc done t) ∙ length-append (allTimes done) (t .times)) in
+    rw (row-here (length (allTimes done)) t s (rowsBytes ts ++ rest) at (f .0) first)
+    (rows-here ts (done ++ (t ∷ [])) s rest (at + length (rowBytes t)) (rw before at (f .1)) others
+    ∙ ap₂ go (append-assoc done (t ∷ []) ts) (rw (rows-more t ts, length-append) (omega arith)))
+
+-- the whole file
+pub file-here : (ts : List Task) → GoodTasks ts → decode (encodeFile ts) ≡ go ts (length (encodeFile ts))
+unfolding decode endAt unless _then_
+file-here ts g =
+    let s = encodeFile ts in
+    let at = 0 + length (encode (length ts)) in
+    let others : drop at s ≡ rowsBytes ts ++ []
+    = next-here s (encode (length ts)) (rowsBytes ts) 0 (file-parts ts) ∙ sym (append-nil (rowsBytes ts)) in
+    let all : at + length (rowsBytes ts) ≡ length s = rw (file-parts ts, length-append) (omega arith) in
+    let none : FineTasks (length (allTimes [])) ts = unfold allTimes in g .fine in
+    let count : Fine (field 0 64) (length ts) = record { least = omega arith; most = g .few; room = g .few } in
+    rw (
+      field-here (field 0 64) (length ts) s (rowsBytes ts) 0 (omega arith) count (file-parts ts),
+      rows-here ts [] s [] at none others,
+      all,
+      le-ltb (length s) (length s) (omega arith),
+      is-good (clashOf (map rowOf ts)) (g .apart),
+    )

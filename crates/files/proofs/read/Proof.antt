@@ -1,0 +1,68 @@
+-- `files::read` meets its contract: the row count, then what follows it. Assumes nothing.
+use Prim.Native.Nat.{ℕ, _≤_}
+use denote.Ref.{now}
+use borrow.Author.Needs.{needs}
+use mathlib.Core.Path.{_≡_, sym, _∙_}
+use mathlib.Core.List.{List, []}
+use Rattle.table.specs.declared.Verdict.{Verdict}
+use Rattle.table.specs.Fields.{field}
+use Rattle.files.specs.Reading.{stop, go, _then_, fieldAt, rowsAt, endAt, decode, loaded, readAnswer}
+use Rattle.files.proofs.Steps.{got, refused}
+use Rattle.files.proofs.Taken.{field-read}
+use Rattle.files.proofs.read.Statement.{statement}
+use Rattle.files.proofs.read.Tie as tie
+
+stops : (s : List ℕ) (v : Verdict) → fieldAt (field 0 64) s 0 ≡ stop v → loaded (stop v) ≡ readAnswer s
+unfolding readAnswer decode _then_
+stops s v e = rw e
+
+goes-on : (s : List ℕ) (n at : ℕ) → fieldAt (field 0 64) s 0 ≡ go n at → loaded (rowsAt n [] s at then endAt s) ≡ readAnswer s
+unfolding readAnswer decode _then_
+goes-on s n at e = rw e
+
+read-field-requires : tie.Need-read-field-requires
+read-field-requires c κs = search needs
+
+enum-known-v : tie.Need-enum-known-v
+enum-known-v c = search needs
+
+refuse-requires : tie.Need-refuse-requires
+refuse-requires c κs = search needs
+
+enum-known-value : tie.Need-enum-known-value
+enum-known-value c = search needs
+
+cast-read-body : tie.Need-cast-read-body
+cast-read-body c = search needs
+
+read-body-requires : tie.Need-read-body-requires
+read-body-requires c κs =
+    let c1 = c .before in
+    let c3 = c1 .before .before in
+    let c5 = c3 .before .before in
+    field-read (field 0 64) (now (c5 .args .bytes)) 0 _ _ (got _ _ _ (sym (c1 .value .given .1) ∙ c3 .read-field .ensures)) .fine .most
+
+returns : tie.Need-returns
+returns c =
+    let c2 = c .before .before in
+    let c4 = c2 .before .before in
+    c .refuse .ensures ∙ stops _ _ (refused _ _ (sym (c2 .v .given .1) ∙ c4 .read-field .ensures))
+
+returns-2 : tie.Need-returns-2
+returns-2 c =
+    let c2 = c .before .before in
+    let c4 = c2 .before .before in
+    c .read-body .ensures ∙ goes-on _ _ _ (got _ _ _ (sym (c2 .value .given .1) ∙ c4 .read-field .ensures))
+
+pub read-spec : {M : Type 1} → statement M
+read-spec =
+    tie.close
+    (tie.spec
+    read-field-requires
+    enum-known-v
+    refuse-requires
+    enum-known-value
+    cast-read-body
+    read-body-requires
+    returns
+    returns-2)

@@ -1,0 +1,72 @@
+-- `files::read_body` meets its contract: rows, then the end. Assumes nothing.
+use Prim.Native.Nat.{ℕ}
+use native.Mathlib.Omega.{arith}
+use borrow.Author.Needs.{needs}
+use mathlib.Core.Path.{_≡_, refl, sym, ap, _∙_}
+use mathlib.Core.List.{List}
+use Rattle.model.specs.Task.{Task}
+use Rattle.table.specs.declared.Verdict.{Verdict}
+use Rattle.table.specs.Memory.{stored}
+use Rattle.files.specs.declared.Body.{Body}
+use Rattle.files.specs.declared.Loaded.{Loaded}
+use Rattle.files.specs.declared.Next.{Next}
+use Rattle.files.specs.declared.Next.the-variants.{At, Refused}
+use Rattle.files.specs.Reading.{Step, stop, go, _then_, endAt, loaded}
+use Rattle.files.specs.Promises.{asBody}
+use Rattle.files.proofs.read_body.Statement.{statement}
+use Rattle.files.proofs.read_body.Tie as tie
+
+module _ (s : List ℕ) (b : Body) where
+  -- where the rows were read to
+  next-is : (x : Step (List Task)) {n : Next} → b ≡ asBody x → b .next ≡ n → asBody x .next ≡ n
+  next-is x read e = sym (ap (λ (k : Body). k .next) read) ∙ e
+
+  stops : (x : Step (List Task)) → b ≡ asBody x → (v : Verdict) → b .next ≡ Refused v → loaded (stop v) ≡ loaded (x then endAt s)
+  unfolding _then_
+  stops (stop w) read v e = let q = next-is (stop w) read e in let same : w ≡ v = cc in rw same
+  stops (go ts m) read v e = let q = next-is (go ts m) read e in let z : _≡_ {A = ℕ} 0 1 = cc in absurd (omega arith)
+
+  ends : (x : Step (List Task)) → b ≡ asBody x → (p : ℕ) (r : Loaded) → b .next ≡ At p
+      → ((ts : List Task) → b .table ≡ stored ts → r ≡ loaded (endAt s ts p)) → r ≡ loaded (x then endAt s)
+  unfolding _then_
+  ends (stop w) read p r e said = let q = next-is (stop w) read e in let z : _≡_ {A = ℕ} 0 1 = cc in absurd (omega arith)
+  ends (go ts m) read p r e said =
+      let q = next-is (go ts m) read e in
+      let same : m ≡ p = cc in
+      rw same (said ts (ap (λ (k : Body). k .table) read))
+
+read-rows-requires : tie.Need-read-rows-requires
+read-rows-requires c κs = search needs
+
+enum-known-next : tie.Need-enum-known-next
+enum-known-next c = search needs
+
+refuse-requires : tie.Need-refuse-requires
+refuse-requires c κs = search needs
+
+enum-known-next-2 : tie.Need-enum-known-next-2
+enum-known-next-2 c = search needs
+
+read-end-requires : tie.Need-read-end-requires
+read-end-requires c κs = search needs
+
+returns : tie.Need-returns
+returns c = c .refuse .ensures ∙ stops _ _ _ (c .before .before .before .before .read-rows .ensures) _ (c .before .before .next .given .1)
+
+returns-2 : tie.Need-returns-2
+returns-2 c =
+    let c3 = c .before .before .before in
+    let c5 = c3 .before .before in
+    ends _ _ _ (c5 .read-rows .ensures) _ _ (c3 .next2 .given .1) (c .read-end .ensures)
+
+pub read-body-spec : {M : Type 1} → statement M
+read-body-spec =
+    tie.close
+    (tie.spec
+    read-rows-requires
+    enum-known-next
+    refuse-requires
+    enum-known-next-2
+    read-end-requires
+    returns
+    returns-2)

@@ -1,0 +1,251 @@
+-- `files::read_rows` meets its contract. The invariant: some rows are done and lie in memory as they should, the others are still to be read. Assumes nothing.
+use Prim.Native.Nat.{ℕ, _+_, _-_, _≤_, _<_}
+use native.Mathlib.Nat.{sub-zero}
+use native.Mathlib.Omega.{arith}
+use borrow.Author.Needs.{needs}
+use mathlib.Core.Path.{_≡_, refl, sym, ap, _∙_}
+use mathlib.Core.List.{List, [], _∷_, _++_, map, map-append}
+use lib.ListN.{length, take, drop, set, replicate, length-map, length-append, length-replicate}
+use Rattle.lists.specs.Lists.{padTo}
+use Rattle.lists.proofs.Pads.{set-pad, splice-pad}
+use Rattle.lists.proofs.Parts.{part-length}
+use Rattle.model.specs.Task.{Task}
+use Rattle.table.specs.declared.Row.{Row}
+use Rattle.table.specs.declared.Verdict.{Verdict}
+use Rattle.table.specs.Fields.{head, time, rowFrom}
+use Rattle.table.specs.Memory.{rowOf, taskOf, allTimes, zeroRow}
+use Rattle.table.proofs.Heads.{GoodHead}
+use Rattle.table.proofs.Stored.{all-times-snoc}
+use Rattle.files.specs.declared.Next.the-variants.{At}
+use Rattle.files.specs.Reading.{Step, stop, go, fieldsAt, rowAt, rowsAt}
+use Rattle.files.specs.Promises.{asBody}
+use Rattle.files.proofs.Steps.{GotHead, got-head, refused-head, filled-at, filled-refused}
+use Rattle.files.proofs.Steps.{row-more, row-fields-stop, row-times-stop, rows-more, rows-stop, rows-none}
+use Rattle.files.proofs.Taken.{taken-fine, fine-length, head-read}
+use Rattle.files.proofs.read_rows.Statement.{statement}
+use Rattle.files.proofs.read_rows.Tie as tie
+
+record Loading (s : List ℕ) (at n : ℕ) (rows : List Row) (times : List ℕ) (p used i : ℕ) : Type 0 where
+  done : List Task
+  upto : i ≤ n
+  count : i ≡ length done
+  total : used ≡ length (allTimes done)
+  room : used ≤ 1024
+  rows-are : rows ≡ padTo zeroRow 64 (map rowOf done)
+  times-are : times ≡ padTo 0 1024 (allTimes done)
+  same : rowsAt n [] s at ≡ rowsAt (n - i) done s p
+
+module _ {s : List ℕ} {at n : ℕ} {rows : List Row} {times : List ℕ} {p used i : ℕ} (l : Loading s at n rows times p used i) where
+  times-long : length times ≡ 1024
+  times-long = rw (l .times-are, length-append, length-replicate) (omega (arith, l .total, l .room))
+
+  ends : n ≤ i → record { next = At p; table = record { count = n; rows = rows; times = times } } ≡ asBody (rowsAt n [] s at)
+  ends h =
+      let all : n ≡ length (l .done) = omega (arith, l .upto, l .count) in
+      let none : n - i ≡ 0 = omega arith in
+      let read : rowsAt n [] s at ≡ go (l .done) p = l .same ∙ rw (none, rows-none) in
+      (λ k. record { next = At p; table = record { count = all k; rows = l .rows-are k; times = l .times-are k } })
+      ∙ sym (ap asBody read)
+
+  module _ (few : n ≤ 64) (some : i < n) where
+    -- the row that is read now, after those that are done
+    here : {x : Step Task} → rowAt used s p ≡ x → rowAt (length (allTimes (l .done))) s p ≡ x
+    here e = rw (l .total) at e
+
+    stops : (v : Verdict) → rowAt used s p ≡ stop v → asBody (stop v) ≡ asBody (rowsAt n [] s at)
+    stops v e = sym (ap asBody (l .same ∙ rows-stop (n - i) (l .done) s p (omega arith) v (here e)))
+
+    head-stops : (v : Verdict) → fieldsAt (head used) [] s p ≡ stop v → asBody (stop v) ≡ asBody (rowsAt n [] s at)
+    head-stops v e = stops v (row-fields-stop used s p v e)
+
+    module _ {row : Row} {q : ℕ} (g : GotHead (fieldsAt (head used) [] s p) row q) where
+      good-row : GoodHead used row
+      good-row = rw (g .is) at (head-read used s p (g .fields) q (g .first))
+
+      -- the part of the times that is lent has a place for each
+      slot : length (take (used + row .parts - used) (drop used times)) ≡ row .parts
+      slot = part-length used (row .parts) times (rw times-long (good-row .room))
+
+      times-stops : (v : Verdict) → fieldsAt (replicate (row .parts) time) [] s q ≡ stop v → asBody (stop v) ≡ asBody (rowsAt n [] s at)
+      times-stops v e = stops v (row-times-stop used s p g v e)
+
+      module _ (ts : List ℕ) (m : ℕ) (read : fieldsAt (replicate (row .parts) time) [] s q ≡ go ts m) where
+        full : length ts ≡ row .parts
+        full = fine-length _ ts (taken-fine (replicate (row .parts) time) s q ts m read) ∙ length-replicate (row .parts) time
+
+        rows-turn : set rows i row ≡ padTo zeroRow 64 (map rowOf (l .done ++ (taskOf row ts ∷ [])))
+        rows-turn =
+            let at-end : i ≡ length (map rowOf (l .done)) = l .count ∙ sym (length-map (l .done) rowOf) in
+            rw (l .rows-are, at-end, set-pad zeroRow 64 (map rowOf (l .done)) row (omega arith), map-append rowOf (l .done) (taskOf row ts ∷ []), full)
+
+        times-turn : take used times ++ (ts ++ drop (used + row .parts - used) (drop used times))
+            ≡ padTo 0 1024 (allTimes (l .done ++ (taskOf row ts ∷ [])))
+        times-turn =
+            let lent : used + row .parts - used ≡ length ts = omega (arith, full) in
+            rw (lent, l .times-are, l .total, splice-pad 0 1024 (allTimes (l .done)) ts, all-times-snoc)
+
+        turn : Loading s at n (set rows i row) (take used times ++ (ts ++ drop (used + row .parts - used) (drop used times))) m (used + row .parts) (i + 1)
+        turn = record {
+          done = l .done ++ (taskOf row ts ∷ []);
+          upto = omega arith;
+          count = rw length-append (omega (arith, l .count));
+          total = rw (all-times-snoc, length-append) (omega (arith, l .total, full));
+          room = good-row .room;
+          rows-are = rows-turn;
+          times-are = times-turn;
+          same =
+              let left : n - i - 1 ≡ n - (i + 1) = omega arith in
+              l .same ∙ rows-more (n - i) (l .done) s p (omega arith) (taskOf row ts) m (here (row-more used s p g ts m read)) ∙ rw left;
+        }
+
+abbrev Inv-loop : tie.InvT-loop
+Inv-loop bytes at n rows₀ times₀ p₀ used₀ i₀ rows times p used i = Loading bytes at n rows times p used i
+
+abbrev μ-loop : tie.MeasureT-loop
+μ-loop bytes at n rows₀ times₀ p₀ used₀ i₀ rows times p used i = n - i
+
+-- the fields of the row that is read now
+got-row : (c : tie.After-row Inv-loop μ-loop)
+    → GotHead (fieldsAt (head (c .before .before .before .before .loop .used)) [] (c .before .before .before .before .before .before .before .args .bytes .now) (c .before .before .before .before .loop .p)) (c .row .given .0 .0) (c .row .given .0 .1 .0)
+got-row c = got-head _ _ _ (sym (c .row .given .1) ∙ c .before .before .read-head .ensures)
+
+row-of-head : (c : tie.After-row Inv-loop μ-loop) → GoodHead (c .before .before .before .before .loop .used) (c .row .given .0 .0)
+row-of-head c = good-row (c .before .before .before .before .loop .inv) (c .before .before .before .before .before .before .before .pre) (c .before .before .before .loop-test .taken) (got-row c)
+
+slot-of : (c : tie.After-row Inv-loop μ-loop) → let used = c .before .before .before .before .loop .used in let parts = c .row .given .0 .0 .parts in
+    length (take (used + parts - used) (drop used (c .before .before .before .before .loop .times))) ≡ parts
+slot-of c = slot (c .before .before .before .before .loop .inv) (c .before .before .before .before .before .before .before .pre) (c .before .before .before .loop-test .taken) (got-row c)
+
+row-of-requires : tie.Need-row-of-requires Inv-loop μ-loop
+row-of-requires c κs = search needs
+
+loop-holds : tie.Need-loop-holds Inv-loop μ-loop
+unfolding allTimes
+loop-holds c =
+    record { done = []; upto = search needs; count = refl; total = refl; room = search needs; rows-are = rw (c .row-of .ensures); times-are = refl; same = rw sub-zero }
+
+read-head-requires : tie.Need-read-head-requires Inv-loop μ-loop
+read-head-requires c κs = search needs
+
+enum-known-v : tie.Need-enum-known-v Inv-loop μ-loop
+enum-known-v c = search needs
+
+no-rows-requires : tie.Need-no-rows-requires Inv-loop μ-loop
+no-rows-requires c κs = search needs
+
+returns : tie.Need-returns Inv-loop μ-loop
+returns c =
+    let c2 = c .before .before in
+    let c4 = c2 .before .before in
+    let c5 = c4 .before in
+    let c6 = c5 .before in
+    let c9 = c6 .before .before .before in
+    c .no-rows .ensures ∙ head-stops (c6 .loop .inv) (c9 .pre) (c5 .loop-test .taken) _ (refused-head _ _ (sym (c2 .v .given .1) ∙ c4 .read-head .ensures))
+
+enum-known-row : tie.Need-enum-known-row Inv-loop μ-loop
+enum-known-row c = search needs
+
+add-end : tie.Need-add-end Inv-loop μ-loop
+add-end c = omega (arith, row-of-head (c .before .before) .room)
+
+cast-a : tie.Need-cast-a Inv-loop μ-loop
+cast-a c = omega (arith, row-of-head (c .before .before) .room)
+
+cast-e : tie.Need-cast-e Inv-loop μ-loop
+cast-e c = omega (arith, row-of-head (c .before .before) .room)
+
+mul-times : tie.Need-mul-times Inv-loop μ-loop
+mul-times c = omega (arith, row-of-head (c .before .before) .room)
+
+sub-read-times : tie.Need-sub-read-times Inv-loop μ-loop
+sub-read-times c = omega (arith, row-of-head (c .before .before) .room)
+
+part-times-start : tie.Need-part-times-start Inv-loop μ-loop
+part-times-start c = omega (arith, row-of-head (c .before .before) .room)
+
+part-times-end : tie.Need-part-times-end Inv-loop μ-loop
+part-times-end c =
+    omega (arith, row-of-head (c .before .before) .room, times-long (c .before .before .before .before .before .before .loop .inv))
+
+read-times-requires : tie.Need-read-times-requires Inv-loop μ-loop
+read-times-requires c κs = rw (slot-of (c .before .before .before)) (row-of-head (c .before .before .before) .parts .most)
+
+enum-known-v-2 : tie.Need-enum-known-v-2 Inv-loop μ-loop
+enum-known-v-2 c = search needs
+
+no-rows-requires-2 : tie.Need-no-rows-requires-2 Inv-loop μ-loop
+no-rows-requires-2 c κs = search needs
+
+returns-2 : tie.Need-returns-2 Inv-loop μ-loop
+returns-2 c =
+    let c2 = c .before .before in
+    let c5 = c2 .before .before .before in
+    let c9 = c5 .before .before .before .before in
+    let c12 = c9 .before .before .before in
+    let c13 = c12 .before in
+    let c16 = c13 .before .before .before in
+    c .no-rows2 .ensures ∙ times-stops (c13 .loop .inv) (c16 .pre) (c12 .loop-test .taken) (got-row (c9)) _ (rw (slot-of (c9)) at (filled-refused _ _ _ (rw (c2 .v2 .given .1) at (c5 .read-times .ensures))))
+
+enum-known-q : tie.Need-enum-known-q Inv-loop μ-loop
+enum-known-q c = search needs
+
+mul-rows : tie.Need-mul-rows Inv-loop μ-loop
+mul-rows c =
+    let c15 = c .before .before .before .before .before .before .before .before .before .before .before .before .before .before .before in
+    omega (arith, c15 .pre)
+
+array-set-from-rows : tie.Need-array-set-from-rows Inv-loop μ-loop
+array-set-from-rows c =
+    let c15 = c .before .before .before .before .before .before .before .before .before .before .before .before .before .before .before in
+    omega (arith, c15 .pre)
+
+add-i : tie.Need-add-i Inv-loop μ-loop
+add-i c = omega arith
+
+loop-less : tie.Need-loop-less Inv-loop μ-loop
+loop-less c = omega arith
+
+loop-again : tie.Need-loop-again Inv-loop μ-loop
+loop-again c =
+    let c1 = c .before in
+    let c4 = c1 .before .before .before in
+    let c8 = c4 .before .before .before .before in
+    let c11 = c8 .before .before .before in
+    let c12 = c11 .before in
+    let c15 = c12 .before .before .before in
+    turn (c12 .loop .inv) (c15 .pre) (c11 .loop-test .taken) (got-row (c8)) _ _ (rw (slot-of (c8)) at (filled-at _ _ _ (rw (c1 .q .given .1) at (c4 .read-times .ensures))))
+
+returns-3 : tie.Need-returns-3 Inv-loop μ-loop
+returns-3 c = ends (c .before .loop .inv) (c .loop-test .left)
+
+pub read-rows-spec : {M : Type 1} → statement M
+read-rows-spec =
+    tie.close
+    (tie.spec
+    Inv-loop
+    μ-loop
+    row-of-requires
+    loop-holds
+    read-head-requires
+    enum-known-v
+    no-rows-requires
+    returns
+    enum-known-row
+    add-end
+    cast-a
+    cast-e
+    mul-times
+    sub-read-times
+    part-times-start
+    part-times-end
+    read-times-requires
+    enum-known-v-2
+    no-rows-requires-2
+    returns-2
+    enum-known-q
+    mul-rows
+    array-set-from-rows
+    add-i
+    loop-less
+    loop-again
+    returns-3)

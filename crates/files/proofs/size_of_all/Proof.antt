@@ -1,0 +1,81 @@
+-- `files::size_of_all` meets its contract. The invariant: the size so far and that of the rest are the whole. Assumes nothing.
+use Prim.Native.Nat.{ℕ, _+_, _-_, _*_, _≤_, _<_}
+use native.Mathlib.Omega.{arith}
+use borrow.Author.Needs.{needs}
+use mathlib.Core.Path.{_≡_, refl, sym, ap, _∙_}
+use mathlib.Core.List.{List}
+use lib.ListN.{length, getD, drop, length-append}
+use Rattle.numbers.specs.Numbers.{encode, encodeAll}
+use Rattle.numbers.proofs.Laws.{encode-few, encode-all-more, encode-all-none}
+use Rattle.files.proofs.size_of_all.Statement.{statement}
+use Rattle.files.proofs.size_of_all.Tie as tie
+
+record Summing (ns : List ℕ) (size i : ℕ) : Type 0 where
+  upto : i ≤ length ns
+  few : size ≤ 5 * i
+  same : length (encodeAll ns) ≡ size + length (encodeAll (drop i ns))
+
+module _ {ns : List ℕ} {size i : ℕ} (k : Summing ns size i) where
+  turn : i < length ns → (n : ℕ) → n ≡ length (encode (getD ns i 0)) → Summing ns (size + n) (i + 1)
+  turn h n e =
+      let cut = ap length (encode-all-more ns i h) ∙ length-append (encode (getD ns i 0)) (encodeAll (drop (i + 1) ns)) in
+      record {
+        upto = omega arith;
+        few = omega (arith, k .few, encode-few (getD ns i 0));
+        same = omega (arith, k .same, cut);
+      }
+
+  ends : length ns ≤ i → size ≡ length (encodeAll ns)
+  ends h = omega (arith, k .same, ap length (encode-all-none ns i h))
+
+abbrev Inv-loop : tie.InvT-loop
+Inv-loop numbers size₀ i₀ size i = Summing numbers size i
+
+abbrev μ-loop : tie.MeasureT-loop
+μ-loop numbers size₀ i₀ size i = length numbers - i
+
+loop-holds : tie.Need-loop-holds Inv-loop μ-loop
+loop-holds c = record { upto = search needs; few = search needs; same = omega arith }
+
+mul-size-of : tie.Need-mul-size-of Inv-loop μ-loop
+mul-size-of c = omega arith
+
+shared-slice-read-size-of : tie.Need-shared-slice-read-size-of Inv-loop μ-loop
+shared-slice-read-size-of c = search needs
+
+size-of-requires : tie.Need-size-of-requires Inv-loop μ-loop
+size-of-requires c κs = search needs
+
+add-size : tie.Need-add-size Inv-loop μ-loop
+add-size c =
+    let c3 = c .before .before .before in
+    let c5 = c3 .before .before in
+    omega (arith, c3 .loop .inv .few, c .size-of .ensures, encode-few (getD (c5 .args .numbers .now) (c3 .loop .i) 0), c5 .pre)
+
+add-i : tie.Need-add-i Inv-loop μ-loop
+add-i c = search needs
+
+loop-less : tie.Need-loop-less Inv-loop μ-loop
+loop-less c = search needs
+
+loop-again : tie.Need-loop-again Inv-loop μ-loop
+loop-again c = turn (c .before .before .before .loop .inv) (c .before .before .loop-test .taken) _ (c .size-of .ensures)
+
+returns : tie.Need-returns Inv-loop μ-loop
+returns c = ends (c .before .loop .inv) (c .loop-test .left)
+
+pub size-of-all-spec : {M : Type 1} → statement M
+size-of-all-spec =
+    tie.close
+    (tie.spec
+    Inv-loop
+    μ-loop
+    loop-holds
+    mul-size-of
+    shared-slice-read-size-of
+    size-of-requires
+    add-size
+    add-i
+    loop-less
+    loop-again
+    returns)

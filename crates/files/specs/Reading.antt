@@ -1,0 +1,76 @@
+-- Document 01, "The file" and "Codes and what they leave": reading goes number by number, and the first fault met is given.
+use Prim.Native.Nat.{ℕ, zero, suc}
+use mathlib.Core.Bool.{Bool, true, false}
+use mathlib.Core.List.{List, [], _∷_, _++_, map}
+use lib.ListN.{length, replicate}
+use lib.Dec.{ltb}
+use Rattle.lists.specs.Lists.{pick}
+use Rattle.numbers.specs.Numbers.{numberAt}
+use Rattle.numbers.specs.declared.Number.{Number}
+use Rattle.numbers.specs.declared.Number.the-variants as N
+use Rattle.model.specs.Task.{Task}
+use Rattle.table.specs.declared.Verdict.{Verdict}
+use Rattle.table.specs.declared.Verdict.the-variants.{Good, EndsEarly, Malformed, Trailing}
+use Rattle.table.specs.Verdicts.{good}
+use Rattle.table.specs.Fields.{Wanted, field, head, time, rowFrom, judge}
+use Rattle.table.specs.Memory.{rowOf, taskOf, allTimes, stored}
+use Rattle.table.specs.Clash.{clashOf}
+use Rattle.files.specs.declared.Loaded.{Loaded}
+
+-- reading stops at a fault, or goes on from the next place with what was read
+pub data Step (A : Type 0) : Type 0 where
+  stop : Verdict → Step A
+  go : A → ℕ → Step A
+
+-- first one thing, then another from where it ends
+unfoldable pub _then_ : {A B : Type 0} → Step A → (A → ℕ → Step B) → Step B
+stop v then f = stop v
+go a next then f = f a next
+
+infixr 20 _then_
+-- go on where the verdict is good, else stop with it
+unfoldable pub unless : {A : Type 0} → Verdict → A → ℕ → Step A
+unless v a next = pick (good v) (go a next) (stop v)
+
+-- at one number in the order 1, 2, 3, 7
+unfoldable pub asked : Wanted → List ℕ → ℕ → Number → Step ℕ
+asked w s at (N.Got value next) = unless (judge w at value) value next
+asked w s at N.EndsEarly = stop (EndsEarly (length s))
+asked w s at N.Malformed = stop (Malformed at)
+
+-- the number wanted at a place
+unfoldable pub fieldAt : Wanted → List ℕ → ℕ → Step ℕ
+fieldAt w s at = asked w s at (numberAt s at)
+
+-- numbers one after another, behind those that are done
+unfoldable pub fieldsAt : List Wanted → List ℕ → List ℕ → ℕ → Step (List ℕ)
+fieldsAt [] done s at = go done at
+fieldsAt (w ∷ ws) done s at = fieldAt w s at then λ value at. fieldsAt ws (done ++ (value ∷ [])) s at
+
+-- a row, with `used` times before it: its fields, then one worst time per part
+unfoldable pub rowAt : ℕ → List ℕ → ℕ → Step Task
+rowAt used s at =
+    fieldsAt (head used) [] s at then λ fields at.
+    fieldsAt (replicate (rowFrom fields .parts) time) [] s at then λ times at.
+    go (taskOf (rowFrom fields) times) at
+
+-- k more rows, behind those that are done
+unfoldable pub rowsAt : ℕ → List Task → List ℕ → ℕ → Step (List Task)
+rowsAt zero done s at = go done at
+rowsAt (suc k) done s at = rowAt (length (allTimes done)) s at then λ task at. rowsAt k (done ++ (task ∷ [])) s at
+
+-- then 8, then 4, 5 and 6 over the whole table
+unfoldable pub endAt : List ℕ → List Task → ℕ → Step (List Task)
+endAt s tasks at = pick (ltb at (length s)) (stop (Trailing at)) (unless (clashOf (map rowOf tasks)) tasks at)
+
+-- the file: row count (0 to 64), then the rows, then the end
+unfoldable pub decode : List ℕ → Step (List Task)
+decode s = fieldAt (field 0 64) s 0 then λ count at. rowsAt count [] s at then λ tasks at. endAt s tasks at
+
+-- what reading answers: a refused read gives a table of zeros
+abbrev pub loaded : Step (List Task) → Loaded
+loaded (stop v) = record { verdict = v; table = stored [] }
+loaded (go tasks next) = record { verdict = Good; table = stored tasks }
+
+unfoldable pub readAnswer : List ℕ → Loaded
+readAnswer s = loaded (decode s)

@@ -1,0 +1,323 @@
+ghost use mathlib.Core.Path.{_≡_};
+ghost use mathlib.Core.List.{List, [], _++_};
+ghost use Prim.Native.Nat.{_+_, _≤_};
+ghost use lib.ListN.{length, replicate, take};
+ghost use lib.Seq.{sets};
+ghost use Rattle.numbers.specs.Numbers.{encodeAll};
+ghost use Rattle.model.specs.Task.{Task};
+ghost use Rattle.table.specs.Fields.{want, wanted, Ranges, head, time, fieldsOf};
+ghost use Rattle.table.specs.Verdicts.{codeOf};
+ghost use Rattle.table.specs.Faults.{faultOf};
+ghost use Rattle.table.specs.Memory.{stored, tasksOf};
+ghost use Rattle.files.specs.Reading.{stop, _then_, fieldAt, fieldsAt, rowsAt, endAt, loaded, readAnswer};
+ghost use Rattle.files.specs.Promises.{asField, asHead, asBody, Filled, PutAt};
+ghost use Rattle.files.specs.Writing.{fileNumbers, Wrote};
+use numbers::Number;
+use table::Row;
+use table::Table;
+use table::Verdict;
+
+// The verdict on a file, and its table: zeros where the verdict is not good.
+pub struct Loaded {
+    pub verdict: Verdict,
+    pub table: Table,
+}
+
+// The verdict on writing a table, and how many bytes were written.
+pub struct Written {
+    pub verdict: Verdict,
+    pub count: usize,
+}
+
+// A number that may stand there, or why there is none.
+enum Field {
+    Got { value: u32, next: usize },
+    Refused(Verdict),
+}
+
+// A row's fields before its times, or why there are none.
+enum Head {
+    Got { row: Row, next: usize },
+    Refused(Verdict),
+}
+
+// Where reading goes on, or why it does not.
+enum Next {
+    At(usize),
+    Refused(Verdict),
+}
+
+// The rows that were read, and where reading goes on or why it does not.
+struct Body {
+    next: Next,
+    table: Table,
+}
+
+// The number at `at`, which may be from `low` to `high` and at most `left`.
+fn read_field(bytes: &[u8], at: usize, low: u32, high: u32, left: u32) -> Field
+    ensures { λ r. ⌜ r ≡ asField (fieldAt (want low high left) (now (bytes .entry)) at) ⌝ }
+{
+    match numbers::number_at(bytes, at) {
+        Number::Got { value, next } => {
+            let v = table::number_fault(value, low, high, left, at);
+            if table::code_of(v) != 0 {
+                return Field::Refused(v);
+            }
+            Field::Got { value, next }
+        }
+        Number::EndsEarly => Field::Refused(Verdict::EndsEarly(bytes.len())),
+        Number::Malformed => Field::Refused(Verdict::Malformed(at)),
+    }
+}
+
+// As many numbers as `out` has room for, each in its own range, from `at` on.
+fn read_fields(
+    bytes: &[u8],
+    at: usize,
+    low: &[u32],
+    high: &[u32],
+    left: &[u32],
+    out: &mut [u32],
+) -> Next
+    requires { ⌜ Ranges (length (now out)) (now low) (now high) (now left) ⌝ }
+    ensures { λ r. ⌜ Filled (fieldsAt (wanted (now (low .entry)) (now (high .entry)) (now (left .entry))) [] (now (bytes .entry)) at) r (now (out .exit)) ⌝ }
+{
+    let mut p = at;
+    let mut i = 0;
+    while i < out.len() {
+        match read_field(bytes, p, low[i], high[i], left[i]) {
+            Field::Refused(v) => return Next::Refused(v),
+            Field::Got { value, next } => {
+                out[i] = value;
+                p = next;
+            }
+        }
+        i += 1;
+    }
+    Next::At(p)
+}
+
+// The fields of the row that begins at `at`, where `used` times are already there.
+fn read_head(bytes: &[u8], at: usize, used: u32) -> Head
+    ensures { λ r. ⌜ r ≡ asHead (fieldsAt (head used) [] (now (bytes .entry)) at) ⌝ }
+{
+    let low = table::LOW;
+    let high = table::HIGH;
+    let left = table::left_after(used);
+    let mut fields = [0u32; 7];
+    match read_fields(bytes, at, &low, &high, &left, &mut fields) {
+        Next::Refused(v) => Head::Refused(v),
+        Next::At(next) => Head::Got {
+            row: table::row_of(fields),
+            next,
+        },
+    }
+}
+
+// The times of a row, one for each place of `out`.
+fn read_times(bytes: &[u8], at: usize, out: &mut [u32]) -> Next
+    requires { ⌜ length (now out) ≤ 64 ⌝ }
+    ensures { λ r. ⌜ Filled (fieldsAt (replicate (length (now (out .entry))) time) [] (now (bytes .entry)) at) r (now (out .exit)) ⌝ }
+{
+    let n = out.len();
+    let low = [1u32; 64];
+    let high = [16777215u32; 64];
+    let left = [16777215u32; 64];
+    read_fields(bytes, at, &low[..n], &high[..n], &left[..n], out)
+}
+
+// What reading rows gives where it is refused.
+fn no_rows(v: Verdict) -> Body
+    ensures { λ r. ⌜ r ≡ asBody (stop v) ⌝ }
+{
+    let next = Next::Refused(v);
+    let table = table::zeros();
+    Body { next, table }
+}
+
+// The `n` rows that begin at `at`.
+fn read_rows(bytes: &[u8], at: usize, n: usize) -> Body
+    requires { ⌜ n ≤ 64 ⌝ }
+    ensures { λ r. ⌜ r ≡ asBody (rowsAt n [] (now (bytes .entry)) at) ⌝ }
+{
+    let row0 = table::row_of([0u32; 7]);
+    let mut rows = [row0; 64];
+    let mut times = [0u32; 1024];
+    let mut p = at;
+    let mut used: u32 = 0;
+    let mut i = 0;
+    while i < n {
+        match read_head(bytes, p, used) {
+            Head::Refused(v) => return no_rows(v),
+            Head::Got { row, next } => {
+                let end = used + row.parts;
+                let a = used as usize;
+                let e = end as usize;
+                match read_times(bytes, next, &mut times[a..e]) {
+                    Next::Refused(v) => return no_rows(v),
+                    Next::At(q) => {
+                        rows[i] = row;
+                        used = end;
+                        p = q;
+                    }
+                }
+            }
+        }
+        i += 1;
+    }
+    let next = Next::At(p);
+    let table = Table {
+        count: n,
+        rows,
+        times,
+    };
+    Body { next, table }
+}
+
+// What a refused read gives: a table of zeros.
+fn refuse(v: Verdict) -> Loaded
+    ensures { λ r. ⌜ r ≡ loaded (stop v) ⌝ }
+{
+    let table = table::zeros();
+    Loaded { verdict: v, table }
+}
+
+// The file's end, then the rules over the whole table.
+fn read_end(bytes: &[u8], at: usize, table: Table) -> Loaded
+    ensures { λ r. ⌜ ((ts : List Task) → table ≡ stored ts → r ≡ loaded (endAt (now (bytes .entry)) ts at)) ⌝ }
+{
+    if at < bytes.len() {
+        return refuse(Verdict::Trailing(at));
+    }
+    let v = table::clash_of(table);
+    if table::code_of(v) != 0 {
+        return refuse(v);
+    }
+    let verdict = Verdict::Good;
+    Loaded { verdict, table }
+}
+
+// What follows the row count.
+fn read_body(bytes: &[u8], at: usize, n: usize) -> Loaded
+    requires { ⌜ n ≤ 64 ⌝ }
+    ensures { λ r. ⌜ r ≡ loaded (rowsAt n [] (now (bytes .entry)) at then endAt (now (bytes .entry))) ⌝ }
+{
+    let body = read_rows(bytes, at, n);
+    let next = body.next;
+    match next {
+        Next::Refused(v) => refuse(v),
+        Next::At(p) => {
+            let table = body.table;
+            read_end(bytes, p, table)
+        }
+    }
+}
+
+// Reads a table file.
+pub fn read(bytes: &[u8]) -> Loaded
+    ensures { λ r. ⌜ r ≡ readAnswer (now (bytes .entry)) ⌝ }
+{
+    match read_field(bytes, 0, 0, 64, 64) {
+        Field::Refused(v) => refuse(v),
+        Field::Got { value, next } => read_body(bytes, next, value as usize),
+    }
+}
+
+// Copies numbers to the front of `out`.
+fn copy(from: &[u32], out: &mut [u32])
+    requires { ⌜ length (now from) ≤ length (now out) ⌝ }
+    ensures { λ r. ⌜ now (out .exit) ≡ sets (now (out .entry)) 0 (now (from .entry)) ⌝ }
+{
+    let mut i = 0;
+    while i < from.len() {
+        out[i] = from[i];
+        i += 1;
+    }
+}
+
+// The numbers of one row, at `p` and on; where the next row's begin.
+fn put_row(row: Row, times: &[u32], out: &mut [u32], p: usize) -> usize
+    requires { ⌜ p + (7 + length (now times)) ≤ length (now out) ⌝ }
+    ensures { λ r. ⌜ PutAt (fieldsOf row ++ now (times .entry)) p (now (out .entry)) r (now (out .exit)) ⌝ }
+{
+    let fields = table::fields_of(row);
+    copy(&fields, &mut out[p..]);
+    let q = p + 7;
+    copy(times, &mut out[q..]);
+    q + times.len()
+}
+
+// The numbers of a good table's file, one after another; how many there are.
+fn file_numbers(t: Table, out: &mut [u32]) -> usize
+    requires { ⌜ (codeOf (faultOf t) ≡ 0) × (length (now out) ≡ 1473) ⌝ }
+    ensures { λ r. ⌜ (r ≤ 1473) × (take r (now (out .exit)) ≡ fileNumbers (tasksOf t)) ⌝ }
+{
+    let n = t.count;
+    let times = t.times;
+    out[0] = n as u32;
+    let mut p: usize = 1;
+    let mut used: usize = 0;
+    let mut i = 0;
+    while i < n {
+        let row = t.rows[i];
+        let end = used + row.parts as usize;
+        p = put_row(row, &times[used..end], out, p);
+        used = end;
+        i += 1;
+    }
+    p
+}
+
+// How many bytes numbers take.
+fn size_of_all(numbers: &[u32]) -> usize
+    requires { ⌜ length (now numbers) ≤ 1473 ⌝ }
+    ensures { λ r. ⌜ r ≡ length (encodeAll (now (numbers .entry))) ⌝ }
+{
+    let mut size = 0;
+    let mut i = 0;
+    while i < numbers.len() {
+        size += numbers::size_of(numbers[i]);
+        i += 1;
+    }
+    size
+}
+
+// Writes numbers one after another to the front of `out`.
+fn put_all(out: &mut [u8], numbers: &[u32])
+    requires { ⌜ length (encodeAll (now numbers)) ≤ length (now out) ⌝ }
+    ensures { λ r. ⌜ now (out .exit) ≡ sets (now (out .entry)) 0 (encodeAll (now (numbers .entry))) ⌝ }
+{
+    let mut p = 0;
+    let mut i = 0;
+    while i < numbers.len() {
+        p += numbers::put_number(&mut out[p..], numbers[i]);
+        i += 1;
+    }
+}
+
+// Writes a table file: what stands against it first, then the room, and only then the bytes.
+pub fn write(table: Table, out: &mut [u8]) -> Written
+    ensures { λ r. ⌜ Wrote table (now (out .entry)) r (now (out .exit)) ⌝ }
+{
+    let fault = table::fault_of(table);
+    if table::code_of(fault) != 0 {
+        return Written {
+            verdict: fault,
+            count: 0,
+        };
+    }
+    let mut numbers = [0u32; 1473];
+    let n = file_numbers(table, &mut numbers);
+    let size = size_of_all(&numbers[..n]);
+    if out.len() < size {
+        return Written {
+            verdict: Verdict::NoRoom(size),
+            count: 0,
+        };
+    }
+    put_all(out, &numbers[..n]);
+    Written {
+        verdict: Verdict::Good,
+        count: size,
+    }
+}
