@@ -2,3 +2,4 @@ pub mod Task
 pub mod Rows
 pub mod Least
 pub mod Bounds
+pub mod Ranges

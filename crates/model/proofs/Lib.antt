@@ -1,0 +1,9 @@
+pub mod Least
+pub mod Climb
+pub mod Rounds
+pub mod Rounding
+pub mod Rows
+pub mod Parts
+pub mod Blocking
+pub mod Demand
+pub mod Exists
