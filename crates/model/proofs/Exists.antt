@@ -8,7 +8,7 @@ use native.Mathlib.Omega.{arith}
 use lib.Dec.{ltb}
 use borrow.Author.Tests.{lt-ltb}
 use Rattle.lists.specs.Lists.{_∈_, keep, total}
-use Rattle.lists.proofs.Tests.{not-below}
+use Rattle.lists.proofs.Tests.{by-test, not-below}
 use Rattle.lists.proofs.Totals.{total-le, total-join}
 use Rattle.model.specs.declared.Found.{Found}
 use Rattle.model.specs.declared.Found.the-variants.{At, Nothing}
@@ -190,3 +190,20 @@ module _ (rows : List Task) (core : GoodCore rows) (t : Task) (m : t ∈ rows) (
           takes = b .3;
           within = b .2;
         }
+
+    -- a row of either kind has its end
+    pub finish-range : FinishRange rows t L r j
+    unfolding finish
+    finish-range =
+        by-test (cooperative t)
+        (λ c.
+        (let a = cooperative-range c in
+        record {
+          f = a .f;
+          ends = rw (c, finish) (ap (endFrom rows t r j) (a .starts) ∙ a .ends);
+          within = a .within;
+          late = omega (arith, a .released, a .takes, part-pos t good r hr);
+        }))
+        (λ c.
+        (let a = preemptive-range c in
+        record { f = a .f; ends = rw (c, finish) (a .ends); within = a .within; late = a .late }))

@@ -7,3 +7,5 @@ pub mod Parts
 pub mod Blocking
 pub mod Demand
 pub mod Exists
+pub mod Verdict
+pub mod Samples

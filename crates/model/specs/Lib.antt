@@ -3,3 +3,5 @@ pub mod Rows
 pub mod Least
 pub mod Bounds
 pub mod Ranges
+pub mod Verdict
+pub mod Samples
