@@ -57,3 +57,16 @@ pub largest-most : (xs : List ℕ) (n : ℕ) → ((r : ℕ) → r < length xs �
 unfolding largest
 largest-most [] n h = omega arith
 largest-most (x ∷ xs) n h = omega (arith, h 0 (omega arith), largest-most xs n (λ r q. h (suc r) (omega arith)))
+
+-- so is the largest number made of an element
+pub largest-each : {A : Type 0} (f : A → ℕ) (xs : List A) (n : ℕ) → ((x : A) → x ∈ xs → f x ≤ n) → largest (map f xs) ≤ n
+unfolding largest
+largest-each f [] n h = omega arith
+largest-each f (x ∷ xs) n h =
+    omega (arith, h x (List·Memᴰ·head refl), largest-each f xs n (λ u m. h u (List·Memᴰ·tail m)))
+
+-- the largest is no more than the sum
+pub largest-sum : (xs : List ℕ) → largest xs ≤ sum xs
+unfolding largest sum
+largest-sum [] = omega arith
+largest-sum (x ∷ xs) = omega (arith, largest-sum xs)

@@ -1,11 +1,11 @@
 -- Laws of `total`: sums over a list, and over what is kept of it.
 use Prim.Native.Nat.{ℕ, _+_, _*_, _≤_, _<_}
-use mathlib.Core.Path.{_≡_, refl, ap}
+use mathlib.Core.Path.{_≡_, refl, sym, ap, _∙_}
 use mathlib.Core.Bool.{Bool, true, false}
 use mathlib.Core.List.{List, [], _∷_, List·Memᴰ·head, List·Memᴰ·tail}
 use native.Mathlib.Omega.{arith}
 use Rattle.lists.specs.Lists.{pick, _∈_, keep, total}
-use Rattle.lists.proofs.Tests.{never}
+use Rattle.lists.proofs.Tests.{by-test, never}
 
 module _ {A : Type 0} where
   -- a sum of terms none of which is larger is no larger
@@ -74,3 +74,26 @@ module _ {A : Type 0} where
       go true e false e′ i = omega (arith, k x (List·Memᴰ·head refl) e′)
       go false e true e′ i = absurd (never (s x (List·Memᴰ·head refl) e′) e)
       go false e false e′ i = omega arith
+
+  -- over more kept elements a sum is no smaller
+  pub total-wider : (p q : A → Bool) (f : A → ℕ) (xs : List A) → ((x : A) → x ∈ xs → p x ≡ true → q x ≡ true)
+      → total f (keep p xs) ≤ total f (keep q xs)
+  total-wider p q f xs s =
+      omega (arith, total-join q p f (λ x. 0) f xs s (λ x m e. omega arith) (λ x m e. omega arith))
+
+  -- and larger by an element that is newly kept
+  pub total-newly : (p q : A → Bool) (f : A → ℕ) (xs : List A) → ((x : A) → x ∈ xs → p x ≡ true → q x ≡ true)
+      → (y : A) → y ∈ xs → p y ≡ false → q y ≡ true → f y + total f (keep p xs) ≤ total f (keep q xs)
+  unfolding total keep
+  total-newly p q f xs s y (List·Memᴰ·head {x = x} {xs = ys} e) n k =
+      rw (sym (ap p e) ∙ n, sym (ap q e) ∙ k)
+      (omega (arith, ap f e, total-wider p q f ys (λ u m. s u (List·Memᴰ·tail m))))
+  total-newly p q f xs s y (List·Memᴰ·tail {x = x} {xs = ys} m) n k =
+      go (p x) refl (q x) refl (total-newly p q f ys (λ u l. s u (List·Memᴰ·tail l)) y m n k)
+    where
+      go : (a : Bool) → p x ≡ a → (b : Bool) → q x ≡ b → f y + total f (keep p ys) ≤ total f (keep q ys)
+          → f y + total f (pick a (x ∷ keep p ys) (keep p ys)) ≤ total f (pick b (x ∷ keep q ys) (keep q ys))
+      go true e true e′ i = omega arith
+      go true e false e′ i = absurd (never (s x (List·Memᴰ·head refl) e) e′)
+      go false e true e′ i = omega arith
+      go false e false e′ i = i

@@ -9,3 +9,4 @@ pub mod Demand
 pub mod Exists
 pub mod Verdict
 pub mod Samples
+pub mod Windows
