@@ -7,18 +7,8 @@ use native.Mathlib.Omega.{arith}
 use Rattle.lists.proofs.Tests.{not-below}
 use Rattle.model.specs.declared.Found.{Found}
 use Rattle.model.specs.declared.Found.the-variants.{At, Nothing}
-use Rattle.model.specs.Least.{least, IsLeast, NoLeast, Says}
-use Rattle.model.proofs.Least.{least-says, least-is, least-later}
-
--- g never falls
-abbrev pub Mono : (ℕ → ℕ) → Type 0
-Mono g = (x y : ℕ) → x ≤ y → g x ≤ g y
-
--- x is reached from below: g takes it no lower, and it is at or below every number from `from` on that g takes no higher
-pub record Under (g : ℕ → ℕ) (from x : ℕ) : Type 0 where
-  pub above : from ≤ x
-  pub rises : x ≤ g x
-  pub low : (y : ℕ) → from ≤ y → g y ≤ y → x ≤ y
+use Rattle.model.specs.Least.{least, IsLeast, NoLeast, Says, Mono, Under}
+use Rattle.model.proofs.Least.{least-says, least-is}
 
 module _ (g : ℕ → ℕ) (from : ℕ) where
   -- a search begins
@@ -86,19 +76,29 @@ module _ (g : ℕ → ℕ) (from : ℕ) where
           low = λ y a b. not-below x y (λ h. (let r : y < g y = rises-before limit x l y a h in omega arith));
         }
 
--- a warm start: what is reached from below stays so where g grows and the range begins later
-pub under-more : (g h : ℕ → ℕ) (from from′ x : ℕ) → from ≤ from′ → from′ ≤ x
-    → ((y : ℕ) → from′ ≤ y → g y ≤ h y) → Under g from x → Under h from′ x
-under-more g h from from′ x a b le u =
+-- a warm start: what is reached from below for one base is, with c more, for a base larger by c
+pub under-shift : (W : ℕ → ℕ) → Mono W → (base c x : ℕ) → Under (λ y. base + W y) 0 x
+    → Under (λ y. base + c + W y) 0 (x + c)
+under-shift W mono base c x u =
     record {
-      above = b;
-      rises = le-trans (u .rises) (le x b);
-      low = λ y c d. u .low y (le-trans a c) (le-trans (le y c) d);
+      above = omega arith;
+      rises = omega (arith, u .rises, mono x (x + c) (omega arith));
+      low =
+          λ y a b.
+          (let back : x ≤ y - c = u .low (y - c) (omega arith) (omega (arith, mono (y - c) y (omega arith))) in
+          omega arith);
     }
 
--- so a search may go on from what an earlier one reached
-pub under-from : (g : ℕ → ℕ) (from limit x : ℕ) → Under g from x → least g from limit ≡ least g x limit
-under-from g from limit x u = least-later g from x limit (u .above) (λ z a e. u .low z a (le-of-eq (sym e)))
+-- a search from what is reached from below finds the least solution
+pub under-least : (g : ℕ → ℕ) (limit x y : ℕ) → Under g 0 x → IsLeast g 0 limit y → least g x limit ≡ At y
+under-least g limit x y u l =
+    least-is g x limit (At y)
+    record {
+      above = u .low y (omega arith) (le-of-eq (sym (l .solves)));
+      within = l .within;
+      solves = l .solves;
+      first = λ z a b e. l .first z (omega arith) b e;
+    }
 
 -- a number that g takes no higher has a solution at or below it
 pub least-exists : (g : ℕ → ℕ) (from limit y : ℕ) → Mono g → from ≤ g from → from ≤ y → y ≤ limit → g y ≤ y

@@ -8,10 +8,9 @@ use Rattle.lists.specs.Lists.{_∈_, total}
 use Rattle.lists.proofs.Totals.{total-le, total-same}
 use Rattle.model.specs.declared.Found.the-variants.{At, Nothing}
 use Rattle.model.specs.Task.{Task, cost, partsBefore}
-use Rattle.model.specs.Least.{least}
+use Rattle.model.specs.Least.{least, Mono}
 use Rattle.model.specs.Bounds.{before, through, higher, blocking, demand, window, preemptiveEnd, limit}
 use Rattle.model.proofs.Least.{least-later, least-base}
-use Rattle.model.proofs.Climb.{Mono}
 use Rattle.model.proofs.Rounding.{before-mono, through-mono, before-suc, before-pos}
 
 -- what rows ask for before tick x, and through tick x

@@ -12,14 +12,14 @@ use Rattle.lists.proofs.Tests.{by-test, not-below}
 use Rattle.lists.proofs.Totals.{total-le, total-join}
 use Rattle.model.specs.declared.Found.{Found}
 use Rattle.model.specs.declared.Found.the-variants.{At, Nothing}
-use Rattle.model.specs.Least.{least, IsLeast}
+use Rattle.model.specs.Least.{least, IsLeast, Mono}
 use Rattle.model.specs.Task.{Task, cost, part, parts, partsBefore}
 use Rattle.model.specs.Rows.{GoodTask, GoodCore}
 use Rattle.model.specs.Bounds.{limit, preemptive, cooperative, before, through, higher, blocking, demand, window}
 use Rattle.model.specs.Bounds.{preemptiveEnd, start, endFrom, finish}
 use Rattle.model.specs.Ranges.{PreemptiveRange, CooperativeRange, FinishRange}
 use Rattle.model.proofs.Least.{least-at}
-use Rattle.model.proofs.Climb.{Mono, least-exists, rises-before}
+use Rattle.model.proofs.Climb.{least-exists, rises-before}
 use Rattle.model.proofs.Rounding.{before-mono, before-least, before-released, through-before}
 use Rattle.model.proofs.Rows.{higher-in, period-pos, preemptive-higher}
 use Rattle.model.proofs.Parts.{parts-suc, part-fits, part-pos, cost-pos}
@@ -46,11 +46,11 @@ module _ (rows : List Task) (core : GoodCore rows) (t : Task) (m : t ∈ rows) (
       (le-trans (cost-pos t good) (demand-cost rows t (period-pos rows core t m) 1 (le-refl 1))) limit L the-window x a b
 
   -- a job that is looked at is released in the window
-  released : (j : ℕ) → j < before t L → j * t .period < L
+  pub released : (j : ℕ) → j < before t L → j * t .period < L
   released j h = before-released t (period-pos rows core t m) j L h
 
   -- with the jobs before it and itself it fits in the window
-  inside : (j : ℕ) → j < before t L → blocking rows t + work (higher rows t) L + (j * cost t + cost t) ≤ L
+  pub inside : (j : ℕ) → j < before t L → blocking rows t + work (higher rows t) L + (j * cost t + cost t) ≤ L
   inside j h =
       let own : suc j * cost t ≤ before t L * cost t = mul-le-mul-right (cost t) h in
       omega (arith, the-window .solves, demand-is rows t L, suc-mul j (cost t))
