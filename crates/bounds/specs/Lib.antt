@@ -1,1 +1,3 @@
 pub mod Slices
+pub mod Gathered
+pub mod Steps

@@ -1,6 +1,9 @@
 ghost use mathlib.Core.Path.{_≡_};
 ghost use Prim.Native.Nat.{ℕ, _+_, _≤_, _<_, _-_, _^_};
+ghost use mathlib.Core.Bool.{true, false};
+ghost use Rattle.model.specs.Least.{value};
 ghost use Rattle.bounds.specs.Slices.{Slices, workAt, side, searched};
+ghost use Rattle.bounds.specs.Steps.{AtPart, Ended};
 
 // The largest length that is looked at.
 pub const LIMIT: u64 = 16777215;
@@ -52,4 +55,62 @@ pub fn search(periods: &[u32], costs: &[u32], base: u64, from: u64) -> Answer
         found: model::Found::Nothing,
         rounds: n,
     }
+}
+
+// What a search found, 0 for nothing.
+fn value_of(answer: Answer) -> u64
+    ensures { λ r. ⌜ r ≡ value (answer .found) ⌝ }
+{
+    let found = answer.found;
+    match found {
+        model::Found::At(x) => x,
+        model::Found::Nothing => 0,
+    }
+}
+
+// The end of a part, and where the search for the next part may begin.
+pub struct PartEnd {
+    pub end: u64,
+    pub next: u64,
+}
+
+// A cooperative part: its start over the higher rows, then its end over the preemptive ones alone.
+fn cooperative_end(
+    hp: &[u32],
+    hc: &[u32],
+    pp: &[u32],
+    pc: &[u32],
+    base: u64,
+    from: u64,
+    time: u64,
+) -> PartEnd
+    requires { ⌜ AtPart (now hp) (now hc) (now pp) (now pc) true base from time ⌝ }
+    ensures { λ p. ⌜ ((a : AtPart (now (hp .entry)) (now (hc .entry)) (now (pp .entry)) (now (pc .entry)) true base from time) → Ended (a .rows) (a .t) (a .j) (a .r) (base + time) p) ⌝ }
+{
+    let through = value_of(search(hp, hc, base + 1, from + 1));
+    let least = through - 1 + time;
+    let rest = least - work(pp, pc, through);
+    let end = value_of(search(pp, pc, rest, least));
+    PartEnd { end, next: least }
+}
+
+// The end of a part with `base` before it, for a row of either kind.
+fn part_end(
+    hp: &[u32],
+    hc: &[u32],
+    pp: &[u32],
+    pc: &[u32],
+    cooperative: bool,
+    base: u64,
+    from: u64,
+    time: u64,
+) -> PartEnd
+    requires { ⌜ AtPart (now hp) (now hc) (now pp) (now pc) cooperative base from time ⌝ }
+    ensures { λ p. ⌜ ((a : AtPart (now (hp .entry)) (now (hc .entry)) (now (pp .entry)) (now (pc .entry)) cooperative base from time) → Ended (a .rows) (a .t) (a .j) (a .r) (base + time) p) ⌝ }
+{
+    if cooperative {
+        return cooperative_end(hp, hc, pp, pc, base, from, time);
+    }
+    let end = value_of(search(hp, hc, base + time, from + time));
+    PartEnd { end, next: end }
 }

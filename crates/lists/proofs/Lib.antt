@@ -2,3 +2,5 @@ pub mod Tests
 pub mod Keep
 pub mod Totals
 pub mod Sums
+pub mod Listed
+pub mod Maps

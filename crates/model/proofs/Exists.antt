@@ -26,6 +26,16 @@ use Rattle.model.proofs.Parts.{parts-suc, part-fits, part-pos, cost-pos
 use Rattle.model.proofs.Blocking.{no-blocking}
 use Rattle.model.proofs.Demand.{work, workThrough, work-mono, workThrough-mono, work-suc, demand-is, demand-mono, demand-cost}
 
+-- the end of a part, by the row's kind
+module _ (rows : List Task) (t : Task) (r j : ℕ) where
+  pub finish-cooperative : cooperative t ≡ true → finish rows t r j ≡ endFrom rows t r j (start rows t r j)
+  unfolding finish
+  finish-cooperative c = rw (c, finish)
+
+  pub finish-preemptive : cooperative t ≡ false → finish rows t r j ≡ preemptiveEnd rows t r j
+  unfolding finish
+  finish-preemptive c = rw (c, finish)
+
 module _ (rows : List Task) (core : GoodCore rows) (t : Task) (m : t ∈ rows) (L : ℕ) (w : window rows t ≡ At L) where
   good : GoodTask t
   good = core .good t m
@@ -38,6 +48,11 @@ module _ (rows : List Task) (core : GoodCore rows) (t : Task) (m : t ∈ rows) (
   pub the-window : IsLeast (demand rows t) 1 limit L
   unfolding window
   the-window = least-at (demand rows t) 1 limit w
+
+  -- it is at most the limit
+  pub window-most : L ≤ 16777215
+  unfolding limit
+  window-most = the-window .within
 
   -- before its end the window asks for more than its length
   pub busy : (x : ℕ) → 0 < x → x < L → x < demand rows t x
@@ -193,17 +208,16 @@ module _ (rows : List Task) (core : GoodCore rows) (t : Task) (m : t ∈ rows) (
 
     -- a row of either kind has its end
     pub finish-range : FinishRange rows t L r j
-    unfolding finish
     finish-range =
         by-test (cooperative t)
         (λ c.
         (let a = cooperative-range c in
         record {
           f = a .f;
-          ends = rw (c, finish) (ap (endFrom rows t r j) (a .starts) ∙ a .ends);
+          ends = finish-cooperative rows t r j c ∙ ap (endFrom rows t r j) (a .starts) ∙ a .ends;
           within = a .within;
           late = omega (arith, a .released, a .takes, part-pos t good r hr);
         }))
         (λ c.
         (let a = preemptive-range c in
-        record { f = a .f; ends = rw (c, finish) (a .ends); within = a .within; late = a .late }))
+        record { f = a .f; ends = finish-preemptive rows t r j c ∙ a .ends; within = a .within; late = a .late }))

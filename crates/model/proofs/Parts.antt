@@ -1,9 +1,11 @@
 -- The times of a row's parts, added up.
-use Prim.Native.Nat.{ℕ, zero, suc, _+_, _≤_, _<_}
+use Prim.Native.Nat.{ℕ, suc, _+_, _*_, _≤_, _<_}
 use mathlib.Core.Path.{_≡_, refl}
+use native.Mathlib.Nat.{mul-le-mul-right}
 use native.Mathlib.Omega.{arith}
+use lib.ListN.{length, getD}
 use Rattle.lists.specs.Lists.{sum}
-use Rattle.lists.proofs.Sums.{sum-suc, sum-take, sum-mono, sum-all}
+use Rattle.lists.proofs.Sums.{sum-suc, sum-take, sum-mono, sum-all, sum-most}
 use Rattle.model.specs.Task.{Task, parts, part, partsBefore, cost}
 use Rattle.model.specs.Rows.{GoodTask}
 
@@ -42,3 +44,16 @@ module _ (t : Task) where
 
     pub cost-pos : 0 < cost t
     cost-pos = omega (arith, part-fits 0, part-pos 0 (g .count .least))
+
+    -- C is at most 64 times the longest time
+    pub cost-most : cost t ≤ 1073741760
+    unfolding cost parts part
+    cost-most =
+        let all : length (t .times) * 16777215 ≤ 64 * 16777215 = mul-le-mul-right 16777215 few in
+        omega (arith, sum-most (t .times) 16777215 (λ r h. times r h))
+      where
+        few : length (t .times) ≤ 64
+        few = g .count .most
+
+        times : (r : ℕ) → r < length (t .times) → getD (t .times) r 0 ≤ 16777215
+        times r h = g .time r h .most
