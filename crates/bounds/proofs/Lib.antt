@@ -2,3 +2,4 @@ pub mod Sides
 pub mod Stand
 pub mod Walk
 pub mod Begun
+pub mod Jobs

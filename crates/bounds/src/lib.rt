@@ -1,9 +1,11 @@
 ghost use mathlib.Core.Path.{_≡_};
-ghost use Prim.Native.Nat.{ℕ, _+_, _≤_, _<_, _-_, _^_};
+ghost use Prim.Native.Nat.{ℕ, _+_, _≤_, _<_, _-_, _^_, max};
+ghost use lib.ListN.{length};
 ghost use mathlib.Core.Bool.{true, false};
 ghost use Rattle.model.specs.Least.{value};
+ghost use Rattle.model.specs.Task.{cost};
 ghost use Rattle.bounds.specs.Slices.{Slices, workAt, side, searched};
-ghost use Rattle.bounds.specs.Steps.{AtPart, Ended};
+ghost use Rattle.bounds.specs.Steps.{AtJob, AtPart, Ended, Raised};
 
 // The largest length that is looked at.
 pub const LIMIT: u64 = 16777215;
@@ -113,4 +115,46 @@ fn part_end(
     }
     let end = value_of(search(hp, hc, base + time, from + time));
     PartEnd { end, next: end }
+}
+
+// The larger of two numbers.
+fn larger(a: u32, b: u32) -> u32
+    ensures { λ r. ⌜ r ≡ max a b ⌝ }
+{
+    if a < b {
+        return b;
+    }
+    a
+}
+
+// One job: the bound of each part is raised to the job's response; where the next job's search may begin.
+fn job_parts(
+    hp: &[u32],
+    hc: &[u32],
+    pp: &[u32],
+    pc: &[u32],
+    cooperative: bool,
+    base: u64,
+    from: u64,
+    release: u64,
+    times: &[u32],
+    bounds: &mut [u32],
+) -> u64
+    requires { ⌜ AtJob (now hp) (now hc) (now pp) (now pc) cooperative base from release (now times) ⌝ }
+    requires { ⌜ length (now bounds) ≡ length (now times) ⌝ }
+    ensures { λ next. ⌜ ((a : AtJob (now (hp .entry)) (now (hc .entry)) (now (pp .entry)) (now (pc .entry)) cooperative base from release (now (times .entry))) → Raised (a .rows) (a .t) (a .j) (base + cost (a .t)) (now (bounds .entry)) (now (bounds .exit)) next) ⌝ }
+{
+    let mut done = base;
+    let mut at = from;
+    let mut r: usize = 0;
+    while r < times.len() {
+        let time = times[r] as u64;
+        let part = part_end(hp, hc, pp, pc, cooperative, done, at, time);
+        let response = (part.end - release) as u32;
+        bounds[r] = larger(bounds[r], response);
+        done += time;
+        at = part.next;
+        r += 1;
+    }
+    at
 }
