@@ -3,3 +3,4 @@ pub mod Stand
 pub mod Walk
 pub mod Begun
 pub mod Jobs
+pub mod Asked

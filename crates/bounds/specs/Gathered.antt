@@ -7,7 +7,9 @@ use Rattle.lists.specs.Lists.{_∈_, keep}
 use Rattle.model.specs.declared.Found.the-variants.{At}
 use Rattle.model.specs.Task.{Task, cost}
 use Rattle.model.specs.Rows.{GoodCore}
-use Rattle.model.specs.Bounds.{preemptive, cooperative, higher, blocking, window}
+use Rattle.model.specs.Bounds.{preemptive, cooperative, higher, blocking, demand, window}
+use Rattle.model.specs.Least.{rounds}
+use Rattle.bounds.specs.declared.Answer.{Answer}
 
 -- the periods of rows, and their costs
 abbrev pub periodsOf : List Task → List ℕ
@@ -33,3 +35,7 @@ pub record Gathered (rows : List Task) (t : Task) (ps cs pp pc : List ℕ) (coop
   pub kind : coop ≡ cooperative t
   pub windowed : window rows t ≡ At length
   pub timed : times ≡ t .times
+
+-- what is answered for a row's window: its length, and how often the right side was worked out from the row's C on
+unfoldable pub windowAnswer : List Task → Task → Answer
+windowAnswer rows t = record { found = window rows t; rounds = rounds (demand rows t) 16777215 16777216 (cost t) }

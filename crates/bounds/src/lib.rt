@@ -1,10 +1,13 @@
 ghost use mathlib.Core.Path.{_≡_};
 ghost use Prim.Native.Nat.{ℕ, _+_, _≤_, _<_, _-_, _^_, max};
-ghost use lib.ListN.{length};
+ghost use mathlib.Core.List.{List};
+ghost use lib.ListN.{length, replicate};
 ghost use mathlib.Core.Bool.{true, false};
 ghost use Rattle.model.specs.Least.{value};
-ghost use Rattle.model.specs.Task.{cost};
+ghost use Rattle.model.specs.Task.{Task, cost};
+ghost use Rattle.model.specs.Bounds.{rowBounds};
 ghost use Rattle.bounds.specs.Slices.{Slices, workAt, side, searched};
+ghost use Rattle.bounds.specs.Gathered.{Demanded, Gathered, windowAnswer};
 ghost use Rattle.bounds.specs.Steps.{AtJob, AtPart, Ended, Raised};
 
 // The largest length that is looked at.
@@ -157,4 +160,55 @@ fn job_parts(
         r += 1;
     }
     at
+}
+
+// The window of a row: its own period and cost first, the higher rows' after them. The search begins at its C.
+pub fn window_of(periods: &[u32], costs: &[u32], blocking: u64) -> Answer
+    requires { ⌜ ((rows : List Task) × (t : Task) × Demanded rows t (now periods) (now costs) blocking) ⌝ }
+    ensures { λ a. ⌜ ((rows : List Task) (t : Task) → Demanded rows t (now (periods .entry)) (now (costs .entry)) blocking → a ≡ windowAnswer rows t) ⌝ }
+{
+    let cost = costs[0] as u64;
+    search(periods, costs, blocking, cost)
+}
+
+// All elements 0.
+fn clear(bounds: &mut [u32])
+    ensures { λ u. ⌜ now (bounds .exit) ≡ replicate (length (now (bounds .entry))) 0 ⌝ }
+{
+    let mut i: usize = 0;
+    while i < bounds.len() {
+        bounds[i] = 0;
+        i += 1;
+    }
+}
+
+// The bounds of a row's parts, job by job; pp, pc are the preemptive rows' periods and costs.
+pub fn row_bounds(
+    periods: &[u32],
+    costs: &[u32],
+    pp: &[u32],
+    pc: &[u32],
+    cooperative: bool,
+    blocking: u64,
+    window: u64,
+    times: &[u32],
+    bounds: &mut [u32],
+)
+    requires { ⌜ ((rows : List Task) × (t : Task) × Gathered rows t (now periods) (now costs) (now pp) (now pc) cooperative blocking window (now times)) ⌝ }
+    requires { ⌜ length (now bounds) ≡ length (now times) ⌝ }
+    ensures { λ u. ⌜ ((rows : List Task) (t : Task) → Gathered rows t (now (periods .entry)) (now (costs .entry)) (now (pp .entry)) (now (pc .entry)) cooperative blocking window (now (times .entry)) → now (bounds .exit) ≡ rowBounds rows t) ⌝ }
+{
+    clear(&mut *bounds);
+    let period = periods[0] as u64;
+    let cost = costs[0] as u64;
+    let hp = &periods[1..];
+    let hc = &costs[1..];
+    let mut base = blocking;
+    let mut from = blocking;
+    let mut release: u64 = 0;
+    while release < window {
+        from = job_parts(hp, hc, pp, pc, cooperative, base, from, release, times, &mut *bounds);
+        base += cost;
+        release += period;
+    }
 }

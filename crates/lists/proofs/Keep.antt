@@ -3,7 +3,7 @@ use mathlib.Core.Path.{_≡_, refl, sym, ap, _∙_}
 use mathlib.Core.Bool.{Bool, true, false}
 use mathlib.Core.List.{List, [], _∷_, List·Memᴰ, List·Memᴰ·head, List·Memᴰ·tail, List·Memᴰ·cases-cons, List·Memᴰ·not-nil}
 use mathlib.Core.Logic.{⊎-elim}
-use Prim.Native.Nat.{ℕ, _≤_}
+use Prim.Native.Nat.{ℕ, _≤_, _<_}
 use native.Mathlib.Omega.{arith}
 use lib.ListN.{length}
 use Rattle.lists.specs.Lists.{pick, _∈_, keep}
@@ -38,3 +38,13 @@ module _ {A : Type 0} where
       go : (b : Bool) → length (keep p ys) ≤ length ys → length (pick b (y ∷ keep p ys) (keep p ys)) ≤ length (y ∷ ys)
       go true h = omega arith
       go false h = omega arith
+
+  -- fewer, where one does not pass
+  pub keep-fewer : (p : A → Bool) (xs : List A) (x : A) → x ∈ xs → p x ≡ false → length (keep p xs) < length xs
+  unfolding keep
+  keep-fewer p xs x (List·Memᴰ·head {x = y} {xs = ys} e) h = rw (sym (ap p e) ∙ h) (omega (arith, keep-length p ys))
+  keep-fewer p xs x (List·Memᴰ·tail {x = y} {xs = ys} m) h = go (p y) (keep-fewer p ys x m h)
+    where
+      go : (b : Bool) → length (keep p ys) < length ys → length (pick b (y ∷ keep p ys) (keep p ys)) < length (y ∷ ys)
+      go true q = omega arith
+      go false q = omega arith
