@@ -4,3 +4,4 @@ pub mod Walk
 pub mod Begun
 pub mod Jobs
 pub mod Asked
+pub mod AllJobs

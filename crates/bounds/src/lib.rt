@@ -207,7 +207,18 @@ pub fn row_bounds(
     let mut from = blocking;
     let mut release: u64 = 0;
     while release < window {
-        from = job_parts(hp, hc, pp, pc, cooperative, base, from, release, times, &mut *bounds);
+        from = job_parts(
+            hp,
+            hc,
+            pp,
+            pc,
+            cooperative,
+            base,
+            from,
+            release,
+            times,
+            &mut *bounds,
+        );
         base += cost;
         release += period;
     }

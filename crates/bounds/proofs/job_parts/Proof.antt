@@ -9,10 +9,6 @@ use Rattle.bounds.proofs.Walk.{in-range}
 use Rattle.bounds.proofs.Jobs.{SoFar, so-far, standing, end-range, so-far-next, job-raised}
 use Rattle.bounds.proofs.job_parts.Statement.{statement}
 use Rattle.bounds.proofs.job_parts.Tie as tie
-use Rattle.bounds.proofs.job_parts.Reads as reads
-use Rattle.bounds.proofs.job_parts.Lts as lts
-use Rattle.bounds.proofs.larger.Reads as larger-reads
-use Rattle.bounds.proofs.part_end.Reads as part-end-reads
 
 abbrev Inv-loop : tie.InvT-loop
 Inv-loop hp hc pp pc cooperative base from release times bounds₀ done₀ at₀ r₀ bounds done at r =
