@@ -40,7 +40,8 @@ module _ (rows : List Task) (t : Task) (ps cs : List ℕ) (blocked : ℕ) (d : D
   unfolding higher
   demanded-slices =
       rw (d .periods, d .costs)
-      (slices-of (t ∷ higher rows t) few (λ u m. ⊎-elim (λ e. rw e (good t (d .row))) (λ n. good u (higher-in rows t u n .0)) (List·Memᴰ·cases-cons m)))
+      (slices-of (t ∷ higher rows t) few
+      (λ u m. ⊎-elim (λ e. rw e (good t (d .row))) (λ n. good u (higher-in rows t u n .0)) (List·Memᴰ·cases-cons m)))
     where
       good : (u : Task) → u ∈ rows → GoodTask u
       good = d .core .good

@@ -90,7 +90,8 @@ fn cooperative_end(
     time: u64,
 ) -> PartEnd
     requires { ⌜ AtPart (now hp) (now hc) (now pp) (now pc) true base from time ⌝ }
-    ensures { λ p. ⌜ ((a : AtPart (now (hp .entry)) (now (hc .entry)) (now (pp .entry)) (now (pc .entry)) true base from time) → Ended (a .rows) (a .t) (a .j) (a .r) (base + time) p) ⌝ }
+    ensures { λ p. ⌜ ((a : AtPart (now (hp .entry)) (now (hc .entry)) (now (pp .entry)) (now (pc .entry)) true base from time)
+        → Ended (a .rows) (a .t) (a .j) (a .r) (base + time) p) ⌝ }
 {
     let through = value_of(search(hp, hc, base + 1, from + 1));
     let least = through - 1 + time;
@@ -111,7 +112,8 @@ fn part_end(
     time: u64,
 ) -> PartEnd
     requires { ⌜ AtPart (now hp) (now hc) (now pp) (now pc) cooperative base from time ⌝ }
-    ensures { λ p. ⌜ ((a : AtPart (now (hp .entry)) (now (hc .entry)) (now (pp .entry)) (now (pc .entry)) cooperative base from time) → Ended (a .rows) (a .t) (a .j) (a .r) (base + time) p) ⌝ }
+    ensures { λ p. ⌜ ((a : AtPart (now (hp .entry)) (now (hc .entry)) (now (pp .entry)) (now (pc .entry)) cooperative base from time)
+        → Ended (a .rows) (a .t) (a .j) (a .r) (base + time) p) ⌝ }
 {
     if cooperative {
         return cooperative_end(hp, hc, pp, pc, base, from, time);
@@ -145,7 +147,9 @@ fn job_parts(
 ) -> u64
     requires { ⌜ AtJob (now hp) (now hc) (now pp) (now pc) cooperative base from release (now times) ⌝ }
     requires { ⌜ length (now bounds) ≡ length (now times) ⌝ }
-    ensures { λ next. ⌜ ((a : AtJob (now (hp .entry)) (now (hc .entry)) (now (pp .entry)) (now (pc .entry)) cooperative base from release (now (times .entry))) → Raised (a .rows) (a .t) (a .j) (base + cost (a .t)) (now (bounds .entry)) (now (bounds .exit)) next) ⌝ }
+    ensures { λ next. ⌜ ((a : AtJob (now (hp .entry)) (now (hc .entry)) (now (pp .entry)) (now (pc .entry)) cooperative base from release
+        (now (times .entry)))
+        → Raised (a .rows) (a .t) (a .j) (base + cost (a .t)) (now (bounds .entry)) (now (bounds .exit)) next) ⌝ }
 {
     let mut done = base;
     let mut at = from;
@@ -165,7 +169,8 @@ fn job_parts(
 // The window of a row: its own period and cost first, the higher rows' after them. The search begins at its C.
 pub fn window_of(periods: &[u32], costs: &[u32], blocking: u64) -> Answer
     requires { ⌜ ((rows : List Task) × (t : Task) × Demanded rows t (now periods) (now costs) blocking) ⌝ }
-    ensures { λ a. ⌜ ((rows : List Task) (t : Task) → Demanded rows t (now (periods .entry)) (now (costs .entry)) blocking → a ≡ windowAnswer rows t) ⌝ }
+    ensures { λ a. ⌜ ((rows : List Task) (t : Task) → Demanded rows t (now (periods .entry)) (now (costs .entry)) blocking
+        → a ≡ windowAnswer rows t) ⌝ }
 {
     let cost = costs[0] as u64;
     search(periods, costs, blocking, cost)
@@ -194,9 +199,13 @@ pub fn row_bounds(
     times: &[u32],
     bounds: &mut [u32],
 )
-    requires { ⌜ ((rows : List Task) × (t : Task) × Gathered rows t (now periods) (now costs) (now pp) (now pc) cooperative blocking window (now times)) ⌝ }
+    requires { ⌜ ((rows : List Task) × (t : Task)
+        × Gathered rows t (now periods) (now costs) (now pp) (now pc) cooperative blocking window (now times)) ⌝ }
     requires { ⌜ length (now bounds) ≡ length (now times) ⌝ }
-    ensures { λ u. ⌜ ((rows : List Task) (t : Task) → Gathered rows t (now (periods .entry)) (now (costs .entry)) (now (pp .entry)) (now (pc .entry)) cooperative blocking window (now (times .entry)) → now (bounds .exit) ≡ rowBounds rows t) ⌝ }
+    ensures { λ u. ⌜ ((rows : List Task) (t : Task)
+        → Gathered rows t (now (periods .entry)) (now (costs .entry)) (now (pp .entry)) (now (pc .entry))
+        cooperative blocking window (now (times .entry))
+        → now (bounds .exit) ≡ rowBounds rows t) ⌝ }
 {
     clear(&mut *bounds);
     let period = periods[0] as u64;

@@ -18,6 +18,10 @@ Inv-loop hp hc pp pc cooperative base from release times bounds₀ done₀ at₀
 abbrev μ-loop : tie.MeasureT-loop
 μ-loop hp hc pp pc cooperative base from release times bounds₀ done₀ at₀ r₀ bounds done at r = length times - r
 
+-- the function's entry, as the loop sees it
+abbrev called : tie.In-loop Inv-loop μ-loop → tie.Start Inv-loop μ-loop
+called c = c .before .before .before .before .before .before .before .before
+
 loop-holds : tie.Need-loop-holds Inv-loop μ-loop
 loop-holds c = (omega arith, refl, λ a. so-far _ _ _ _ _ _ _ _ _ a _)
 
@@ -32,15 +36,15 @@ cast-time c = omega (arith, c .shared-slice-known6 .given (c .before .before .lo
 
 part-end-requires : tie.Need-part-end-requires Inv-loop μ-loop
 part-end-requires c κs =
-    let a = c .before .before .before .before .before .before .before .before .before .pre .0 in
+    let a = called (c .before) .pre .0 in
     standing _ _ _ _ _ _ _ _ _ a _ _ _ _ _ (c .before .before .loop .inv .2 a) (c .before .loop-test .taken)
 
 -- the part's end lies after the release and within the limit
 range : (c : tie.After-part-end Inv-loop μ-loop)
-    → (c .before .before .before .before .before .before .before .before .before .before .args .release ≤ c .part-end .result .end)
+    → (called (c .before .before) .args .release ≤ c .part-end .result .end)
     × (c .part-end .result .end ≤ 16777215)
 range c =
-    let a = c .before .before .before .before .before .before .before .before .before .before .pre .0 in
+    let a = called (c .before .before) .pre .0 in
     let i = c .before .before .before .loop .inv .2 a in
     let h = c .before .before .loop-test .taken in
     end-range _ _ _ _ _ _ _ _ _ a _ _ _ _ _ i h (c .part-end .result)
@@ -49,8 +53,8 @@ range c =
 -- there is a bound for each part
 room : (c : tie.In-loop Inv-loop μ-loop) → c .before .loop .r < length (c .before .loop .bounds)
 room c =
-    let lengths : length (c .before .before .before .before .before .before .before .before .args .bounds .now)
-    ≡ length (c .before .before .before .before .before .before .before .before .args .times .now) = c .before .before .before .before .before .before .before .before .pre .1 in
+    let lengths : length (called c .args .bounds .now)
+    ≡ length (called c .args .times .now) = called c .pre .1 in
     omega (arith, c .before .loop .inv .1, c .loop-test .taken)
 
 sub-response : tie.Need-sub-response Inv-loop μ-loop
@@ -60,7 +64,7 @@ cast-response : tie.Need-cast-response Inv-loop μ-loop
 cast-response c = omega (arith, range (c .before))
 
 mul-larger : tie.Need-mul-larger Inv-loop μ-loop
-mul-larger c = omega (arith, room (c .before .before .before), c .before .before .before .before .before .before .before .before .before .before .before .good)
+mul-larger c = omega (arith, room (c .before .before .before), called (c .before .before .before) .good)
 
 slice-read-larger : tie.Need-slice-read-larger Inv-loop μ-loop
 slice-read-larger c = room (c .before .before .before .before)
@@ -76,10 +80,11 @@ slice-write-bounds c = room (c .before .before .before .before .before)
 
 add-done : tie.Need-add-done Inv-loop μ-loop
 add-done c =
-    let a = c .before .before .before .before .before .before .before .before .before .before .before .before .before .pre .0 in
+    let a = called (c .before .before .before .before .before) .pre .0 in
     let small =
     in-range _ _ _ _ _ _ _ _
-    (standing _ _ _ _ _ _ _ _ _ a _ _ _ _ _ (c .before .before .before .before .before .before .loop .inv .2 a) (c .before .before .before .before .before .loop-test .taken)) in
+    (standing _ _ _ _ _ _ _ _ _ a _ _ _ _ _ (c .before .before .before .before .before .before .loop .inv .2 a)
+    (c .before .before .before .before .before .loop-test .taken)) in
     omega (arith, small)
 
 add-r : tie.Need-add-r Inv-loop μ-loop

@@ -37,23 +37,30 @@ abbrev μ-loop : tie.MeasureT-loop
 μ-loop periods costs pp pc cooperative blocking window times bounds₀ period cost hp hc base₀ from₀ release₀ bounds base from release =
     window - release
 
+-- the function's entry, as the code before the loop and the loop see it
+abbrev entry : tie.After-slice-known Inv-loop μ-loop → tie.Start Inv-loop μ-loop
+entry c = c .before .before .before .before .before .before
+
+abbrev called : tie.In-loop Inv-loop μ-loop → tie.Start Inv-loop μ-loop
+called c = entry (c .before .before .before .before .before .before .before .before .before .before)
+
 clear-requires : tie.Need-clear-requires Inv-loop μ-loop
 clear-requires c κs = search needs
 
 shared-slice-read-period : tie.Need-shared-slice-read-period Inv-loop μ-loop
-shared-slice-read-period c = has-own _ _ _ _ _ (c .before .before .before .before .before .before .before .before .before .before .before .pre .0 .2 .demanded) .0
+shared-slice-read-period c = has-own _ _ _ _ _ (entry (c .before .before .before .before .before) .pre .0 .2 .demanded) .0
 
 cast-period : tie.Need-cast-period Inv-loop μ-loop
 cast-period c = omega (arith, c .shared-slice-known6 .given 0)
 
 shared-slice-read-cost : tie.Need-shared-slice-read-cost Inv-loop μ-loop
-shared-slice-read-cost c = has-own _ _ _ _ _ (c .before .before .before .before .before .before .before .before .before .before .before .before .pre .0 .2 .demanded) .1
+shared-slice-read-cost c = has-own _ _ _ _ _ (entry (c .before .before .before .before .before .before) .pre .0 .2 .demanded) .1
 
 cast-cost : tie.Need-cast-cost Inv-loop μ-loop
 cast-cost c = omega (arith, c .shared-slice-known7 .given 0)
 
 sub-hp : tie.Need-sub-hp Inv-loop μ-loop
-sub-hp c = has-own _ _ _ _ _ (c .before .before .before .before .before .before .before .before .before .before .before .before .pre .0 .2 .demanded) .0
+sub-hp c = has-own _ _ _ _ _ (entry (c .before .before .before .before .before .before) .pre .0 .2 .demanded) .0
 
 part-hp-start : tie.Need-part-hp-start Inv-loop μ-loop
 part-hp-start c = omega (arith, sub-hp c)
@@ -62,7 +69,7 @@ part-hp-end : tie.Need-part-hp-end Inv-loop μ-loop
 part-hp-end c = omega arith
 
 sub-hc : tie.Need-sub-hc Inv-loop μ-loop
-sub-hc c = has-own _ _ _ _ _ (c .before .before .before .before .before .before .before .before .before .before .before .before .before .pre .0 .2 .demanded) .1
+sub-hc c = has-own _ _ _ _ _ (entry (c .before .before .before .before .before .before .before) .pre .0 .2 .demanded) .1
 
 part-hc-start : tie.Need-part-hc-start Inv-loop μ-loop
 part-hc-start c = omega (arith, sub-hc c)
@@ -72,7 +79,7 @@ part-hc-end c = omega arith
 
 loop-holds : tie.Need-loop-holds Inv-loop μ-loop
 loop-holds c =
-    let s = c .before .before .before .before .before .before .before .before .before .before .before .before .before .before in
+    let s = entry (c .before .before .before .before .before .before .before .before) in
     let zeros = c .before .before .before .before .before .before .clear .ensures ∙ ap (λ (n : ℕ). replicate n 0) (s .pre .1) in
     record {
       j = 0;
@@ -84,7 +91,7 @@ loop-holds c =
 
 job-parts-requires : tie.Need-job-parts-requires Inv-loop μ-loop
 job-parts-requires c κs =
-    let s = c .before .before .before .before .before .before .before .before .before .before .before .before .before .before .before .before .before in
+    let s = called (c .before) in
     let d = c .before .before .loop .inv in
     let g = s .pre .0 .2 in (
       at-job _ _ _ _ _ _ _ _ _ _ g (d .j) _ _ _ _ (d .jobs _ _ g) (d .worked) (d .released) (c .before .loop-test .taken) _ _
@@ -94,7 +101,7 @@ job-parts-requires c κs =
 
 add-base : tie.Need-add-base Inv-loop μ-loop
 add-base c =
-    let g = c .before .before .before .before .before .before .before .before .before .before .before .before .before .before .before .before .before .before .before .before .pre .0 .2 in
+    let g = called (c .before .before .before .before) .pre .0 .2 in
     let d = c .before .before .before .before .before .loop .inv in
     let most =
     base-most _ _ _ _ _ _ _ _ _ _ g (d .j) _ _ _ _ (d .jobs _ _ g) (d .worked) (d .released) (c .before .before .before .before .loop-test .taken) in
@@ -102,19 +109,19 @@ add-base c =
 
 add-release : tie.Need-add-release Inv-loop μ-loop
 add-release c =
-    let g = c .before .before .before .before .before .before .before .before .before .before .before .before .before .before .before .before .before .before .before .before .pre .0 .2 in
+    let g = called (c .before .before .before .before) .pre .0 .2 in
     let small = length-most _ _ _ _ _ _ _ _ _ _ g in
     let most = period-most _ _ _ _ _ _ _ _ _ _ g in
     omega (arith, small, most, c .before .before .before .before .loop-test .taken)
 
 loop-less : tie.Need-loop-less Inv-loop μ-loop
 loop-less c =
-    let some = period-some _ _ _ _ _ _ _ _ _ _ (c .before .before .before .before .before .before .before .before .before .before .before .before .before .before .before .before .before .before .before .before .pre .0 .2) in
+    let some = period-some _ _ _ _ _ _ _ _ _ _ (called (c .before .before .before .before) .pre .0 .2) in
     omega (arith, some, c .before .before .before .before .loop-test .taken)
 
 loop-again : tie.Need-loop-again Inv-loop μ-loop
 loop-again c =
-    let s = c .before .before .before .before .before .before .before .before .before .before .before .before .before .before .before .before .before .before .before .before in
+    let s = called (c .before .before .before .before) in
     let d = c .before .before .before .before .before .loop .inv in
     record {
       j = suc (d .j);
@@ -131,7 +138,7 @@ loop-again c =
     }
 
 same-length : tie.Need-same-length Inv-loop μ-loop
-same-length c = c .before .loop .inv .same ∙ sym (c .before .before .before .before .before .before .before .before .before .before .before .before .before .before .before .before .pre .1)
+same-length c = c .before .loop .inv .same ∙ sym (entry (c .before .before .before .before .before .before .before .before .before .before) .pre .1)
 
 returns : tie.Need-returns Inv-loop μ-loop
 returns c =
