@@ -5,3 +5,4 @@ pub mod Begun
 pub mod Jobs
 pub mod Asked
 pub mod AllJobs
+pub mod Picks

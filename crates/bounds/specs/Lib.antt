@@ -1,3 +1,4 @@
 pub mod Slices
 pub mod Gathered
 pub mod Steps
+pub mod Picked

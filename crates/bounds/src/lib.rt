@@ -1,13 +1,15 @@
 ghost use mathlib.Core.Path.{_≡_};
 ghost use Prim.Native.Nat.{ℕ, _+_, _≤_, _<_, _-_, _^_, max};
-ghost use mathlib.Core.List.{List};
-ghost use lib.ListN.{length, replicate};
+ghost use mathlib.Core.List.{List, _++_, map, _∷_};
+ghost use lib.ListN.{length, take, replicate};
 ghost use mathlib.Core.Bool.{true, false};
 ghost use Rattle.model.specs.Least.{value};
 ghost use Rattle.model.specs.Task.{Task, cost};
-ghost use Rattle.model.specs.Bounds.{rowBounds};
+ghost use Rattle.model.specs.Bounds.{preemptive, higher, rowBounds};
+ghost use Rattle.lists.specs.Lists.{keep, largest};
 ghost use Rattle.bounds.specs.Slices.{Slices, workAt, side, searched};
 ghost use Rattle.bounds.specs.Gathered.{Demanded, Gathered, windowAnswer};
+ghost use Rattle.bounds.specs.Picked.{between, picked, longestPart, Held};
 ghost use Rattle.bounds.specs.Steps.{AtJob, AtPart, Ended, Raised};
 
 // The largest length that is looked at.
@@ -231,4 +233,33 @@ pub fn row_bounds(
         base += cost;
         release += period;
     }
+}
+
+// Whether a key lies from low to high.
+fn is_between(low: u32, high: u32, key: u32) -> bool
+    ensures { λ r. ⌜ r ≡ between low high key ⌝ }
+{
+    if key < low {
+        return false;
+    }
+    key <= high
+}
+
+// The values whose key lies from low to high go to `out` from place `at` on; the place after the last of them.
+fn gather(keys: &[u32], values: &[u32], low: u32, high: u32, at: usize, out: &mut [u32]) -> usize
+    requires { ⌜ length (now keys) ≡ length (now values) ⌝ }
+    requires { ⌜ at + length (picked low high (now keys) (now values)) ≤ length (now out) ⌝ }
+    ensures { λ r. ⌜ r ≡ at + length (picked low high (now (keys .entry)) (now (values .entry))) ⌝ }
+    ensures { λ r. ⌜ take r (now (out .exit)) ≡ take at (now (out .entry)) ++ picked low high (now (keys .entry)) (now (values .entry)) ⌝ }
+{
+    let mut m = at;
+    let mut i: usize = 0;
+    while i < keys.len() {
+        if is_between(low, high, keys[i]) {
+            out[m] = values[i];
+            m += 1;
+        }
+        i += 1;
+    }
+    m
 }

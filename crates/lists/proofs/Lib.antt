@@ -4,3 +4,4 @@ pub mod Totals
 pub mod Sums
 pub mod Listed
 pub mod Maps
+pub mod Places

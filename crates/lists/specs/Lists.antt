@@ -1,5 +1,6 @@
 -- Small words on lists and tests that the definitions use.
 use Prim.Native.Nat.{ℕ, zero, suc, _+_, _-_, max}
+use mathlib.Core.Path.{_≡_}
 use mathlib.Core.Bool.{Bool, true, false}
 use mathlib.Core.List.{List, [], _∷_, _++_, List·Memᴰ}
 use lib.ListN.{length, replicate}
@@ -46,3 +47,9 @@ largest (x ∷ xs) = max x (largest xs)
 unfoldable pub listed : {A : Type 0} → (ℕ → A) → ℕ → List A
 listed h zero = []
 listed h (suc n) = h 0 ∷ listed (λ i. h (suc i)) n
+
+-- x stands at place i
+unfoldable pub Place : {A : Type 0} → List A → ℕ → A → Type 0
+Place [] i x = ⊥
+Place (y ∷ ys) zero x = y ≡ x
+Place (y ∷ ys) (suc i) x = Place ys i x
