@@ -6,3 +6,4 @@ pub mod Jobs
 pub mod Asked
 pub mod AllJobs
 pub mod Picks
+pub mod Holds

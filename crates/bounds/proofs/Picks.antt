@@ -52,3 +52,15 @@ picked-rows low high key f (u ∷ us) = go (between low high (key u)) (picked-ro
         ≡ map f (pick b (u ∷ keep (λ v. between low high (key v)) us) (keep (λ v. between low high (key v)) us))
     go true e = ap (λ (l : List ℕ). f u ∷ l) e
     go false e = e
+
+-- no more are picked than there are keys
+pub picked-short : (low high : ℕ) (ks vs : List ℕ) → length (picked low high ks vs) ≤ length ks
+unfolding picked
+picked-short low high [] vs = omega arith
+picked-short low high (k ∷ ks) [] = omega arith
+picked-short low high (k ∷ ks) (v ∷ vs) = go (between low high k) (picked-short low high ks vs)
+  where
+    go : (b : Bool) → length (picked low high ks vs) ≤ length ks
+        → length (pick b (v ∷ picked low high ks vs) (picked low high ks vs)) ≤ length (k ∷ ks)
+    go true h = omega arith
+    go false h = omega arith

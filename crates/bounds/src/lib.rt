@@ -5,7 +5,7 @@ ghost use lib.ListN.{length, take, replicate};
 ghost use mathlib.Core.Bool.{true, false};
 ghost use Rattle.model.specs.Least.{value};
 ghost use Rattle.model.specs.Task.{Task, cost};
-ghost use Rattle.model.specs.Bounds.{preemptive, higher, rowBounds};
+ghost use Rattle.model.specs.Bounds.{preemptive, higher, blocking, rowBounds};
 ghost use Rattle.lists.specs.Lists.{keep, largest};
 ghost use Rattle.bounds.specs.Slices.{Slices, workAt, side, searched};
 ghost use Rattle.bounds.specs.Gathered.{Demanded, Gathered, windowAnswer};
@@ -262,4 +262,60 @@ fn gather(keys: &[u32], values: &[u32], low: u32, high: u32, at: usize, out: &mu
         i += 1;
     }
     m
+}
+
+// The largest of the values whose key lies from low to high, 0 for none.
+fn largest_between(keys: &[u32], values: &[u32], low: u32, high: u32) -> u32
+    requires { ⌜ length (now keys) ≡ length (now values) ⌝ }
+    ensures { λ r. ⌜ r ≡ largest (picked low high (now (keys .entry)) (now (values .entry))) ⌝ }
+{
+    let mut most: u32 = 0;
+    let mut i: usize = 0;
+    while i < keys.len() {
+        if is_between(low, high, keys[i]) {
+            most = larger(most, values[i]);
+        }
+        i += 1;
+    }
+    most
+}
+
+// The largest priority.
+pub const HIGHEST: u32 = 255;
+
+// The value of row `own` first and the higher rows' after it, in table order; how many there are.
+pub fn gather_higher(priorities: &[u32], values: &[u32], own: usize, out: &mut [u32]) -> usize
+    requires { ⌜ ((rows : List Task) × (t : Task) × (f : Task → ℕ) × Held rows own t f (now priorities) (now values)) ⌝ }
+    requires { ⌜ length (now priorities) ≤ length (now out) ⌝ }
+    ensures { λ n. ⌜ n ≤ length (now (priorities .entry)) ⌝ }
+    ensures { λ n. ⌜ ((rows : List Task) (t : Task) (f : Task → ℕ) → Held rows own t f (now (priorities .entry)) (now (values .entry))
+        → take n (now (out .exit)) ≡ map f (t ∷ higher rows t)) ⌝ }
+{
+    out[0] = values[own];
+    let low = priorities[own] + 1;
+    gather(priorities, values, low, HIGHEST, 1, &mut *out)
+}
+
+// The values of the preemptive rows, in table order; how many there are.
+pub fn gather_preemptive(kinds: &[u32], values: &[u32], out: &mut [u32]) -> usize
+    requires { ⌜ length (now kinds) ≡ length (now values) ⌝ }
+    requires { ⌜ length (now kinds) ≤ length (now out) ⌝ }
+    ensures { λ n. ⌜ n ≤ length (now (kinds .entry)) ⌝ }
+    ensures { λ n. ⌜ ((rows : List Task) (f : Task → ℕ) → now (kinds .entry) ≡ map (λ u. u .kind) rows → now (values .entry) ≡ map f rows
+        → take n (now (out .exit)) ≡ map f (keep preemptive rows)) ⌝ }
+{
+    gather(kinds, values, 0, 0, 0, &mut *out)
+}
+
+// The blocking of row `own`, from each row's longest part.
+pub fn blocking_of(priorities: &[u32], longest: &[u32], own: usize, kind: u32) -> u64
+    requires { ⌜ ((rows : List Task) × (t : Task) × Held rows own t longestPart (now priorities) (now longest)) ⌝ }
+    ensures { λ b. ⌜ ((rows : List Task) (t : Task) → Held rows own t longestPart (now (priorities .entry)) (now (longest .entry))
+        → kind ≡ t .kind → b ≡ blocking rows t) ⌝ }
+{
+    if kind == 1 {
+        let high = priorities[own] - 1;
+        return largest_between(priorities, longest, 0, high) as u64;
+    }
+    0
 }

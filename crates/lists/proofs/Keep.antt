@@ -48,3 +48,10 @@ module _ {A : Type 0} where
       go : (b : Bool) → length (keep p ys) < length ys → length (pick b (y ∷ keep p ys) (keep p ys)) < length (y ∷ ys)
       go true q = omega arith
       go false q = omega arith
+
+  -- two tests that agree keep the same
+  pub keep-same : (p q : A → Bool) (xs : List A) → ((x : A) → x ∈ xs → p x ≡ q x) → keep p xs ≡ keep q xs
+  unfolding keep
+  keep-same p q [] h = refl
+  keep-same p q (y ∷ ys) h =
+      rw (h y (List·Memᴰ·head refl), keep-same p q ys (λ x m. h x (List·Memᴰ·tail m)))
