@@ -11,9 +11,6 @@ use Rattle.bounds.specs.Picked.{between, picked}
 use Rattle.bounds.proofs.Picks.{picked-end, picked-yes, picked-no, stored}
 use Rattle.bounds.proofs.gather.Statement.{statement}
 use Rattle.bounds.proofs.gather.Tie as tie
-use Rattle.bounds.proofs.gather.Reads as reads
-use Rattle.bounds.proofs.gather.Lts as lts
-use Rattle.bounds.proofs.is_between.Reads as is-between-reads
 
 -- m values are stored, and those of the rows from i on follow
 record Stored (keys values : List ℕ) (low high at : ℕ) (out₀ out : List ℕ) (m i : ℕ) : Type 0 where
