@@ -5,5 +5,3 @@ pub mod Begun
 pub mod Jobs
 pub mod Asked
 pub mod AllJobs
-pub mod Picks
-pub mod Holds

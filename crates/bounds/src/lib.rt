@@ -1,15 +1,13 @@
 ghost use mathlib.Core.Path.{_≡_};
-ghost use Prim.Native.Nat.{ℕ, _+_, _≤_, _<_, _-_, _^_, max};
-ghost use mathlib.Core.List.{List, _++_, map, _∷_};
-ghost use lib.ListN.{length, take, replicate};
-ghost use mathlib.Core.Bool.{true, false};
+ghost use Prim.Native.Nat.{_+_, _≤_, _^_};
+ghost use mathlib.Core.List.{List};
+ghost use lib.ListN.{length, replicate};
+ghost use mathlib.Core.Bool.{true};
 ghost use Rattle.model.specs.Least.{value};
 ghost use Rattle.model.specs.Task.{Task, cost};
-ghost use Rattle.model.specs.Bounds.{preemptive, higher, blocking, rowBounds};
-ghost use Rattle.lists.specs.Lists.{keep, largest};
+ghost use Rattle.model.specs.Bounds.{rowBounds};
 ghost use Rattle.bounds.specs.Slices.{Slices, workAt, side, searched};
 ghost use Rattle.bounds.specs.Gathered.{Demanded, Gathered, windowAnswer};
-ghost use Rattle.bounds.specs.Picked.{between, picked, longestPart, Held};
 ghost use Rattle.bounds.specs.Steps.{AtJob, AtPart, Ended, Raised};
 
 // The largest length that is looked at.
@@ -124,16 +122,6 @@ fn part_end(
     PartEnd { end, next: end }
 }
 
-// The larger of two numbers.
-fn larger(a: u32, b: u32) -> u32
-    ensures { λ r. ⌜ r ≡ max a b ⌝ }
-{
-    if a < b {
-        return b;
-    }
-    a
-}
-
 // One job: the bound of each part is raised to the job's response; where the next job's search may begin.
 fn job_parts(
     hp: &[u32],
@@ -160,7 +148,7 @@ fn job_parts(
         let time = times[r] as u64;
         let part = part_end(hp, hc, pp, pc, cooperative, done, at, time);
         let response = (part.end - release) as u32;
-        bounds[r] = larger(bounds[r], response);
+        bounds[r] = lists::larger(bounds[r], response);
         done += time;
         at = part.next;
         r += 1;
@@ -233,89 +221,4 @@ pub fn row_bounds(
         base += cost;
         release += period;
     }
-}
-
-// Whether a key lies from low to high.
-fn is_between(low: u32, high: u32, key: u32) -> bool
-    ensures { λ r. ⌜ r ≡ between low high key ⌝ }
-{
-    if key < low {
-        return false;
-    }
-    key <= high
-}
-
-// The values whose key lies from low to high go to `out` from place `at` on; the place after the last of them.
-fn gather(keys: &[u32], values: &[u32], low: u32, high: u32, at: usize, out: &mut [u32]) -> usize
-    requires { ⌜ length (now keys) ≡ length (now values) ⌝ }
-    requires { ⌜ at + length (picked low high (now keys) (now values)) ≤ length (now out) ⌝ }
-    ensures { λ r. ⌜ r ≡ at + length (picked low high (now (keys .entry)) (now (values .entry))) ⌝ }
-    ensures { λ r. ⌜ take r (now (out .exit)) ≡ take at (now (out .entry)) ++ picked low high (now (keys .entry)) (now (values .entry)) ⌝ }
-{
-    let mut m = at;
-    let mut i: usize = 0;
-    while i < keys.len() {
-        if is_between(low, high, keys[i]) {
-            out[m] = values[i];
-            m += 1;
-        }
-        i += 1;
-    }
-    m
-}
-
-// The largest of the values whose key lies from low to high, 0 for none.
-fn largest_between(keys: &[u32], values: &[u32], low: u32, high: u32) -> u32
-    requires { ⌜ length (now keys) ≡ length (now values) ⌝ }
-    ensures { λ r. ⌜ r ≡ largest (picked low high (now (keys .entry)) (now (values .entry))) ⌝ }
-{
-    let mut most: u32 = 0;
-    let mut i: usize = 0;
-    while i < keys.len() {
-        if is_between(low, high, keys[i]) {
-            most = larger(most, values[i]);
-        }
-        i += 1;
-    }
-    most
-}
-
-// The largest priority.
-pub const HIGHEST: u32 = 255;
-
-// The value of row `own` first and the higher rows' after it, in table order; how many there are.
-pub fn gather_higher(priorities: &[u32], values: &[u32], own: usize, out: &mut [u32]) -> usize
-    requires { ⌜ ((rows : List Task) × (t : Task) × (f : Task → ℕ) × Held rows own t f (now priorities) (now values)) ⌝ }
-    requires { ⌜ length (now priorities) ≤ length (now out) ⌝ }
-    ensures { λ n. ⌜ n ≤ length (now (priorities .entry)) ⌝ }
-    ensures { λ n. ⌜ ((rows : List Task) (t : Task) (f : Task → ℕ) → Held rows own t f (now (priorities .entry)) (now (values .entry))
-        → take n (now (out .exit)) ≡ map f (t ∷ higher rows t)) ⌝ }
-{
-    out[0] = values[own];
-    let low = priorities[own] + 1;
-    gather(priorities, values, low, HIGHEST, 1, &mut *out)
-}
-
-// The values of the preemptive rows, in table order; how many there are.
-pub fn gather_preemptive(kinds: &[u32], values: &[u32], out: &mut [u32]) -> usize
-    requires { ⌜ length (now kinds) ≡ length (now values) ⌝ }
-    requires { ⌜ length (now kinds) ≤ length (now out) ⌝ }
-    ensures { λ n. ⌜ n ≤ length (now (kinds .entry)) ⌝ }
-    ensures { λ n. ⌜ ((rows : List Task) (f : Task → ℕ) → now (kinds .entry) ≡ map (λ u. u .kind) rows → now (values .entry) ≡ map f rows
-        → take n (now (out .exit)) ≡ map f (keep preemptive rows)) ⌝ }
-{
-    gather(kinds, values, 0, 0, 0, &mut *out)
-}
-
-// The blocking of row `own`, from each row's longest part.
-pub fn blocking_of(priorities: &[u32], longest: &[u32], own: usize, kind: u32) -> u64
-    requires { ⌜ ((rows : List Task) × (t : Task) × Held rows own t longestPart (now priorities) (now longest)) ⌝ }
-    ensures { λ b. ⌜ ((rows : List Task) (t : Task) → Held rows own t longestPart (now (priorities .entry)) (now (longest .entry))
-        → kind ≡ t .kind → b ≡ blocking rows t) ⌝ }
-{
-    if kind == 1 {
-        let high = priorities[own] - 1;
-        return largest_between(priorities, longest, 0, high) as u64;
-    }
-    0
 }

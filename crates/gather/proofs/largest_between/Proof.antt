@@ -1,4 +1,4 @@
--- `bounds::largest_between` meets its contract: the largest so far, with that of the rows from i on, is the largest of all.
+-- `gather::largest_between` meets its contract: the largest so far, with that of the rows from i on, is the largest of all.
 use Prim.Native.Nat.{ℕ, _+_, _-_, _≤_, _<_, max}
 use mathlib.Core.Path.{_≡_, refl, sym, ap, _∙_}
 use mathlib.Core.Bool.{true, false}
@@ -7,10 +7,10 @@ use native.Mathlib.Omega.{arith}
 use borrow.Author.Needs.{needs}
 use lib.ListN.{length, getD, drop}
 use Rattle.lists.specs.Lists.{largest}
-use Rattle.bounds.specs.Picked.{picked}
-use Rattle.bounds.proofs.Picks.{picked-end, picked-yes, picked-no}
-use Rattle.bounds.proofs.largest_between.Statement.{statement}
-use Rattle.bounds.proofs.largest_between.Tie as tie
+use Rattle.gather.specs.Picked.{picked}
+use Rattle.gather.proofs.Picks.{picked-end, picked-yes, picked-no}
+use Rattle.gather.proofs.largest_between.Statement.{statement}
+use Rattle.gather.proofs.largest_between.Tie as tie
 
 abbrev Inv-loop : tie.InvT-loop
 Inv-loop keys values low high most₀ i₀ most i =

@@ -1,9 +1,9 @@
--- `bounds::is_between` meets its contract, by its two tests.
+-- `gather::is_between` meets its contract, by its two tests.
 use mathlib.Core.Path.{_≡_}
 use borrow.Author.Tests.{lt-leb, le-leb}
-use Rattle.bounds.specs.Picked.{between}
-use Rattle.bounds.proofs.is_between.Statement.{statement}
-use Rattle.bounds.proofs.is_between.Tie as tie
+use Rattle.gather.specs.Picked.{between}
+use Rattle.gather.proofs.is_between.Statement.{statement}
+use Rattle.gather.proofs.is_between.Tie as tie
 
 returns : tie.Need-returns
 unfolding between

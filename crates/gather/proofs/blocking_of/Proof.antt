@@ -1,4 +1,4 @@
--- `bounds::blocking_of` meets its contract: a cooperative row is blocked for the longest part among the lower rows.
+-- `gather::blocking_of` meets its contract: a cooperative row is blocked for the longest part among the lower rows.
 use Prim.Native.Nat.{ℕ, _+_, _-_, _≤_, _<_}
 use mathlib.Core.Path.{_≡_, refl, sym, ap, _∙_}
 use native.Mathlib.Omega.{arith}
@@ -8,9 +8,9 @@ use lib.ListN.{length}
 use Rattle.lists.specs.Lists.{largest}
 use Rattle.model.specs.Bounds.{cooperative}
 use Rattle.model.proofs.Blocking.{no-blocking, blocking-is}
-use Rattle.bounds.proofs.Holds.{held-length, held-below, priority-range, lower-picked}
-use Rattle.bounds.proofs.blocking_of.Statement.{statement}
-use Rattle.bounds.proofs.blocking_of.Tie as tie
+use Rattle.gather.proofs.Holds.{held-length, held-below, priority-range, lower-picked}
+use Rattle.gather.proofs.blocking_of.Statement.{statement}
+use Rattle.gather.proofs.blocking_of.Tie as tie
 
 mul-high : tie.Need-mul-high
 mul-high c =

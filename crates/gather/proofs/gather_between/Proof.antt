@@ -1,4 +1,4 @@
--- `bounds::gather` meets its contract: what is stored, with what the rows from i on give, is what all rows give.
+-- `gather::gather_between` meets its contract: what is stored, with what the rows from i on give, is what all rows give.
 use Prim.Native.Nat.{ℕ, suc, _+_, _-_, _≤_, _<_}
 use mathlib.Core.Path.{_≡_, refl, sym, ap, _∙_}
 use mathlib.Core.Bool.{true, false}
@@ -7,10 +7,10 @@ use mathlib.Core.Logic.{⊎-elim}
 use native.Mathlib.Omega.{arith}
 use borrow.Author.Needs.{needs}
 use lib.ListN.{length, getD, take, drop, set, length-set}
-use Rattle.bounds.specs.Picked.{between, picked}
-use Rattle.bounds.proofs.Picks.{picked-end, picked-yes, picked-no, stored}
-use Rattle.bounds.proofs.gather.Statement.{statement}
-use Rattle.bounds.proofs.gather.Tie as tie
+use Rattle.gather.specs.Picked.{between, picked}
+use Rattle.gather.proofs.Picks.{picked-end, picked-yes, picked-no, stored}
+use Rattle.gather.proofs.gather_between.Statement.{statement}
+use Rattle.gather.proofs.gather_between.Tie as tie
 
 -- m values are stored, and those of the rows from i on follow
 record Stored (keys values : List ℕ) (low high at : ℕ) (out₀ out : List ℕ) (m i : ℕ) : Type 0 where
@@ -131,8 +131,8 @@ returns c =
           ∙ ap (λ (l : List ℕ). take (c .before .loop .m) (c .before .loop .out) ++ l) (sym past) ∙ s .list,
     )
 
-pub gather-spec : {M : Type 1} → statement M
-gather-spec =
+pub gather-between-spec : {M : Type 1} → statement M
+gather-between-spec =
     tie.close
     (tie.spec
     Inv-loop

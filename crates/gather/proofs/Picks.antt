@@ -9,7 +9,7 @@ use lib.ListN.{length, getD, take, drop, set, drop-of-length-le}
 use lib.Seq.{drop-cons, take-suc-set, append-snoc}
 use Rattle.lists.specs.Lists.{pick, keep}
 use Rattle.model.specs.Task.{Task}
-use Rattle.bounds.specs.Picked.{between, picked}
+use Rattle.gather.specs.Picked.{between, picked}
 
 module _ (low high : ℕ) (ks vs : List ℕ) where
   -- past the last key there is nothing

@@ -1,11 +1,11 @@
--- `bounds::gather_higher` meets its contract: its own value is stored first, and the higher rows' are gathered after it.
+-- `gather::gather_higher` meets its contract: its own value is stored first, and the higher rows' are gathered after it.
 use Prim.Native.Nat.{ℕ, _+_, _≤_, _<_}
 use mathlib.Core.Path.{_≡_, refl, sym, ap, _∙_}
 use native.Mathlib.Omega.{arith}
 use lib.ListN.{length, length-set}
-use Rattle.bounds.proofs.Holds.{held-length, held-below, priority-range, higher-few, own-first}
-use Rattle.bounds.proofs.gather_higher.Statement.{statement}
-use Rattle.bounds.proofs.gather_higher.Tie as tie
+use Rattle.gather.proofs.Holds.{held-length, held-below, priority-range, higher-few, own-first}
+use Rattle.gather.proofs.gather_higher.Statement.{statement}
+use Rattle.gather.proofs.gather_higher.Tie as tie
 
 -- the row is one of those held, and there is room
 held : (s : tie.Start)
@@ -33,21 +33,21 @@ add-low c =
     let most = priority-range _ _ _ _ _ _ (c .before .before .before .before .before .pre .0 .3) in
     omega (arith, most)
 
-gather-requires : tie.Need-gather-requires
-gather-requires c κs =
+gather-between-requires : tie.Need-gather-between-requires
+gather-between-requires c κs =
     let s = c .before .before .before .before .before .before in
     let few = higher-few _ _ _ _ _ _ (s .pre .0 .3) in
     (held s .1, simp length-set (omega (arith, few, held s)))
 
 same-length : tie.Need-same-length
-same-length c = c .before .before .gather .kept .1 .1 .1 .1 .1 .0 ∙ simp length-set
+same-length c = c .before .before .gather-between .kept .1 .1 .1 .1 .1 .0 ∙ simp length-set
 
 returns : tie.Need-returns
 returns c =
     let s = c .before .before .before .before .before .before .before .before .before in
     let few = higher-few _ _ _ _ _ _ (s .pre .0 .3) in (
-      omega (arith, c .before .before .gather .ensures .0, few),
-      λ rows t f h. c .before .before .gather .ensures .1 ∙ own-first rows _ t f _ _ h (s .args .out .now) (omega (arith, held s)),
+      omega (arith, c .before .before .gather-between .ensures .0, few),
+      λ rows t f h. c .before .before .gather-between .ensures .1 ∙ own-first rows _ t f _ _ h (s .args .out .now) (omega (arith, held s)),
     )
 
 pub gather-higher-spec : {M : Type 1} → statement M
@@ -60,6 +60,6 @@ gather-higher-spec =
     mul-low
     shared-slice-read-low
     add-low
-    gather-requires
+    gather-between-requires
     same-length
     returns)

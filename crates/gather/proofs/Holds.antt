@@ -18,8 +18,8 @@ use Rattle.lists.proofs.Places.{place-in, place-map, place-below}
 use Rattle.model.specs.Task.{Task}
 use Rattle.model.specs.Rows.{GoodTask}
 use Rattle.model.specs.Bounds.{preemptive, higher, lower}
-use Rattle.bounds.specs.Picked.{between, picked, Held}
-use Rattle.bounds.proofs.Picks.{picked-rows}
+use Rattle.gather.specs.Picked.{between, picked, Held}
+use Rattle.gather.proofs.Picks.{picked-rows}
 
 -- a key above p, of those up to 255
 between-above : (p k : ℕ) → k ≤ 255 → between (p + 1) 255 k ≡ ltb p k
