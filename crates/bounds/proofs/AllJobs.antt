@@ -1,24 +1,21 @@
 -- A row, job by job: before the first job the bounds are 0, and after the last they are document 01's.
-use Prim.Native.Nat.{ℕ, zero, suc, _+_, _-_, _*_, _≤_, _<_, max}
-use mathlib.Core.Path.{_≡_, refl, sym, ap, _∙_}
+use Prim.Native.Nat.{ℕ, suc, _+_, _*_, _≤_, _<_, max}
+use mathlib.Core.Path.{_≡_, sym, ap, _∙_}
 use mathlib.Core.Bool.{Bool}
-use mathlib.Core.List.{List, [], _∷_}
-use native.Mathlib.Nat.{le-antisymm, suc-mul}
-use native.Mathlib.Numerals.{add-one}
+use mathlib.Core.List.{List}
+use native.Mathlib.Nat.{le-antisymm}
 use native.Mathlib.Omega.{arith}
 use lib.ListN.{length, getD, drop, replicate, getD-replicate}
 use Rattle.lists.specs.Lists.{listed}
 use Rattle.lists.proofs.Listed.{listed-is}
-use Rattle.model.specs.declared.Found.the-variants.{At}
 use Rattle.model.specs.Task.{Task, cost, parts}
-use Rattle.model.specs.Least.{value, maxBelow, Under}
-use Rattle.model.specs.Bounds.{before, higher, blocking, window, jobs, response, bound, rowBounds}
+use Rattle.model.specs.Least.{value, maxBelow}
+use Rattle.model.specs.Bounds.{before, blocking, jobs, response, bound, rowBounds}
 use Rattle.model.proofs.Rounding.{before-more, before-least}
 use Rattle.model.proofs.Rows.{period-pos}
-use Rattle.model.proofs.Demand.{work}
 use Rattle.model.proofs.Exists.{window-most, inside}
 use Rattle.bounds.specs.Gathered.{Gathered}
-use Rattle.bounds.specs.Steps.{Warm, Seen, AtJob, Raised}
+use Rattle.bounds.specs.Steps.{Warm, AtJob, Raised}
 use Rattle.bounds.proofs.Asked.{own-period, own-cost}
 
 -- the walk before job j: where it stands, and the bounds over the jobs before it

@@ -1,27 +1,26 @@
 -- The slices of a row and the higher rows give the row's window.
-use Prim.Native.Nat.{ℕ, suc, _+_, _*_, _≤_, _<_}
-use mathlib.Core.Path.{_≡_, refl, sym, ap, ap₂, fun-ext, _∙_}
-use mathlib.Core.List.{List, [], _∷_, List·Memᴰ·cases-cons}
+use Prim.Native.Nat.{ℕ, suc, _≤_, _<_}
+use mathlib.Core.Path.{_≡_, sym, ap, ap₂, fun-ext, _∙_}
+use mathlib.Core.List.{List, _∷_, List·Memᴰ·cases-cons}
 use mathlib.Core.Logic.{⊎-elim}
 use native.Mathlib.Nat.{le-refl, le-trans}
 use native.Mathlib.Omega.{arith}
 use lib.Dec.{ltb}
 use lib.ListN.{length, getD}
 use borrow.Author.Tests.{le-ltb}
-use Rattle.lists.specs.Lists.{_∈_, keep, total, largest}
+use Rattle.lists.specs.Lists.{_∈_, total}
 use Rattle.lists.proofs.Keep.{keep-fewer}
 use Rattle.lists.proofs.Sums.{largest-most}
 use Rattle.model.specs.Task.{Task, cost, part, parts}
-use Rattle.model.specs.Rows.{GoodTask, GoodCore}
-use Rattle.model.specs.Least.{least, rounds}
-use Rattle.model.specs.Bounds.{limit, higher, blocking, demand, window}
+use Rattle.model.specs.Rows.{GoodTask}
+use Rattle.model.specs.Least.{rounds}
+use Rattle.model.specs.Bounds.{limit, higher, demand}
 use Rattle.model.proofs.Rows.{higher-in, period-pos}
 use Rattle.model.proofs.Parts.{cost-pos}
 use Rattle.model.proofs.Blocking.{blocking-most}
 use Rattle.model.proofs.Demand.{demand-is, demand-cost, window-from-cost}
-use Rattle.bounds.specs.declared.Answer.{Answer}
 use Rattle.bounds.specs.Slices.{Slices, side, searched}
-use Rattle.bounds.specs.Gathered.{periodsOf, costsOf, Demanded, windowAnswer}
+use Rattle.bounds.specs.Gathered.{Demanded, windowAnswer}
 use Rattle.bounds.proofs.Stand.{work-lists, slices-of}
 
 module _ (rows : List Task) (t : Task) (ps cs : List ℕ) (blocked : ℕ) (d : Demanded rows t ps cs blocked) where

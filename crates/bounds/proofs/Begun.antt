@@ -1,8 +1,8 @@
 -- A cooperative part: what its two searches answer is the start and the end, and all fits.
-use Prim.Native.Nat.{ℕ, zero, suc, _+_, _-_, _*_, _≤_, _<_}
-use mathlib.Core.Path.{_≡_, refl, sym, ap, subst, _∙_}
-use mathlib.Core.Bool.{Bool, true, false}
-use mathlib.Core.List.{List, [], _∷_}
+use Prim.Native.Nat.{ℕ, suc, _+_, _-_, _*_, _≤_, _<_}
+use mathlib.Core.Path.{_≡_, sym, ap, subst, _∙_}
+use mathlib.Core.Bool.{true}
+use mathlib.Core.List.{List}
 use native.Mathlib.Nat.{add-mul}
 use native.Mathlib.Omega.{arith}
 use lib.Dec.{ltb}
@@ -12,15 +12,15 @@ use Rattle.lists.proofs.Keep.{kept}
 use Rattle.lists.proofs.Totals.{total-add, total-same, total-wider}
 use Rattle.model.specs.declared.Found.the-variants.{At}
 use Rattle.model.specs.Task.{Task, cost, part, partsBefore}
-use Rattle.model.specs.Least.{least, value, IsLeast, Under}
+use Rattle.model.specs.Least.{least, value, IsLeast}
 use Rattle.model.specs.Ranges.{CooperativeRange}
-use Rattle.model.specs.Bounds.{limit, preemptive, cooperative, before, through, higher, blocking, start, endFrom, finish}
+use Rattle.model.specs.Bounds.{limit, preemptive, cooperative, before, through, higher, blocking, start, endFrom}
 use Rattle.model.proofs.Least.{least-at, least-same}
 use Rattle.model.proofs.Climb.{under-shift}
 use Rattle.model.proofs.Rounding.{before-suc, through-before}
 use Rattle.model.proofs.Rows.{period-pos, preemptive-higher}
 use Rattle.model.proofs.Demand.{work, workThrough, work-mono, work-suc}
-use Rattle.model.proofs.Exists.{higher-periods, window-most, cooperative-range, finish-cooperative}
+use Rattle.model.proofs.Exists.{higher-periods, cooperative-range, finish-cooperative}
 use Rattle.bounds.specs.Slices.{workAt, side, searched}
 use Rattle.bounds.specs.Steps.{Warm, AtPart, Ended}
 use Rattle.bounds.proofs.Walk.{answers, preemptive-work, time-pos, window-small, solved, reached}

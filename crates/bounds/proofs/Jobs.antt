@@ -1,10 +1,9 @@
 -- One job, part by part: each part's bound is raised to the job's response, and the next part stands where this one ended.
-use Prim.Native.Nat.{ℕ, zero, suc, _+_, _-_, _*_, _≤_, _<_, max}
+use Prim.Native.Nat.{ℕ, _+_, _-_, _≤_, _<_, max}
 use mathlib.Core.Path.{_≡_, refl, sym, ap, subst, _∙_}
 use mathlib.Core.Bool.{Bool}
-use mathlib.Core.List.{List, [], _∷_}
+use mathlib.Core.List.{List}
 use mathlib.Core.Logic.{⊎-elim}
-use native.Mathlib.Nat.{add-zero}
 use native.Mathlib.Numerals.{add-one}
 use native.Mathlib.Omega.{arith}
 use lib.ListN.{length, getD, set}
@@ -13,8 +12,7 @@ use Rattle.lists.proofs.Tests.{either}
 use Rattle.model.specs.declared.Found.the-variants.{At}
 use Rattle.model.specs.Task.{Task, cost, parts, part, partsBefore}
 use Rattle.model.specs.Least.{value}
-use Rattle.model.specs.Ranges.{FinishRange}
-use Rattle.model.specs.Bounds.{blocking, finish, response}
+use Rattle.model.specs.Bounds.{response}
 use Rattle.model.proofs.Parts.{parts-zero, parts-suc, parts-all}
 use Rattle.model.proofs.Exists.{window-most, finish-range}
 use Rattle.bounds.specs.declared.PartEnd.{PartEnd}

@@ -1,8 +1,8 @@
 -- The work of rows that stand in two slices: taken row by row, never falling, bounded, and the work of the rows they stand for.
-use Prim.Native.Nat.{ℕ, zero, suc, _+_, _-_, _*_, _/_, _≤_, _<_}
-use mathlib.Core.Path.{_≡_, refl, sym, ap, _∙_}
-use mathlib.Core.List.{List, [], _∷_, map}
-use native.Mathlib.Nat.{le-refl, le-trans, add-le-add, mul-le-mul, mul-le-mul-right, suc-mul}
+use Prim.Native.Nat.{ℕ, suc, _+_, _-_, _*_, _/_, _≤_, _<_}
+use mathlib.Core.Path.{_≡_}
+use mathlib.Core.List.{List, [], _∷_}
+use native.Mathlib.Nat.{le-refl, add-le-add, mul-le-mul, mul-le-mul-right, suc-mul}
 use native.Mathlib.Numerals.{add-one}
 use native.Mathlib.Omega.{arith}
 use lib.ListN.{length, getD, drop, drop-of-length-le}

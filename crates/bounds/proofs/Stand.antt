@@ -1,8 +1,8 @@
 -- The slices of periods and costs stand for rows: their work is the rows' work, and they are in range.
-use Prim.Native.Nat.{ℕ, _+_, _*_, _≤_, _<_}
+use Prim.Native.Nat.{ℕ, _*_, _≤_}
 use mathlib.Core.Path.{_≡_, refl, sym, ap, _∙_}
 use mathlib.Core.Bool.{Bool}
-use mathlib.Core.List.{List, [], _∷_, map}
+use mathlib.Core.List.{List, [], _∷_}
 use native.Mathlib.Nat.{le-trans}
 use native.Mathlib.Omega.{arith}
 use lib.ListN.{length}
@@ -11,7 +11,7 @@ use Rattle.lists.proofs.Keep.{kept, keep-length}
 use Rattle.lists.proofs.Maps.{map-length, map-each}
 use Rattle.model.specs.Task.{Task, cost}
 use Rattle.model.specs.Rows.{GoodTask, GoodCore}
-use Rattle.model.specs.Bounds.{before, up}
+use Rattle.model.specs.Bounds.{before}
 use Rattle.model.proofs.Rounding.{before-is}
 use Rattle.model.proofs.Parts.{cost-most}
 use Rattle.bounds.specs.Slices.{Slices, workAt}

@@ -1,29 +1,22 @@
 -- One part of one job: its searches begin where they may, all fits, and what they find is the part's end.
-use Prim.Native.Nat.{ℕ, zero, suc, _+_, _-_, _*_, _≤_, _<_}
-use mathlib.Core.Path.{_≡_, refl, sym, ap, subst, _∙_}
-use mathlib.Core.Bool.{Bool, true, false}
-use mathlib.Core.List.{List, [], _∷_}
-use native.Mathlib.Nat.{le-trans, le-of-eq, add-mul}
+use Prim.Native.Nat.{ℕ, suc, _+_, _*_, _≤_, _<_}
+use mathlib.Core.Path.{_≡_, sym, ap, subst, _∙_}
+use mathlib.Core.Bool.{Bool, false}
+use mathlib.Core.List.{List}
 use native.Mathlib.Omega.{arith}
-use lib.Dec.{ltb}
-use borrow.Author.Tests.{lt-ltb}
-use Rattle.lists.specs.Lists.{_∈_, keep, total}
-use Rattle.lists.proofs.Keep.{kept}
-use Rattle.lists.proofs.Totals.{total-add, total-same, total-wider}
+use Rattle.lists.specs.Lists.{keep}
 use Rattle.model.specs.declared.Found.the-variants.{At}
-use Rattle.model.specs.Task.{Task, cost, part, partsBefore}
-use Rattle.model.specs.Least.{least, value, IsLeast, Mono, Under}
-use Rattle.model.specs.Ranges.{PreemptiveRange, CooperativeRange}
-use Rattle.model.specs.Bounds.{limit, preemptive, cooperative, before, through, higher, blocking, preemptiveEnd, start, endFrom, finish}
+use Rattle.model.specs.Task.{Task, cost, partsBefore}
+use Rattle.model.specs.Least.{least, value, IsLeast}
+use Rattle.model.specs.Ranges.{PreemptiveRange}
+use Rattle.model.specs.Bounds.{limit, preemptive, cooperative, higher, preemptiveEnd}
 use Rattle.model.proofs.Least.{least-at, least-same}
 use Rattle.model.proofs.Climb.{under-shift, under-least, least-under}
-use Rattle.model.proofs.Rounding.{before-suc, through-before}
-use Rattle.model.proofs.Rows.{period-pos, preemptive-higher}
 use Rattle.model.proofs.Parts.{parts-suc, part-fits, part-pos}
 use Rattle.model.proofs.Blocking.{no-blocking}
-use Rattle.model.proofs.Demand.{work, workThrough, work-mono, work-suc}
-use Rattle.model.proofs.Exists.{higher-periods, window-most, inside, preemptive-range, cooperative-range}
-use Rattle.model.proofs.Exists.{finish-preemptive, finish-cooperative}
+use Rattle.model.proofs.Demand.{work, work-mono}
+use Rattle.model.proofs.Exists.{window-most, inside, preemptive-range}
+use Rattle.model.proofs.Exists.{finish-preemptive}
 use Rattle.bounds.specs.Slices.{Slices, workAt, side, searched}
 use Rattle.bounds.specs.Steps.{Warm, Seen, AtPart, Ended}
 use Rattle.bounds.proofs.Stand.{work-lists, slices-keep}

@@ -1,16 +1,15 @@
 -- What is picked of the slices that hold a core's rows: the higher rows, the lower ones, and the preemptive ones.
-use Prim.Native.Nat.{ℕ, zero, suc, _+_, _-_, _≤_, _<_}
-use mathlib.Core.Path.{_≡_, refl, sym, ap, _∙_}
-use mathlib.Core.Bool.{Bool, true, false}
-use mathlib.Core.List.{List, [], _∷_, _++_, map}
+use Prim.Native.Nat.{ℕ, _+_, _-_, _≤_, _<_}
+use mathlib.Core.Path.{_≡_, sym, ap, _∙_}
+use mathlib.Core.List.{List, _∷_, _++_, map}
 use mathlib.Core.Logic.{⊎-elim}
 use native.Mathlib.Nat.{le-refl}
 use native.Mathlib.Omega.{arith}
-use lib.Dec.{eqb, ltb, leb}
+use lib.Dec.{eqb, ltb}
 use lib.ListN.{length, getD, take, set}
-use lib.Seq.{take-suc-set}
+use lib.Seq.{take-suc-set, drop-set-lt}
 use borrow.Author.Tests.{lt-ltb, le-ltb, le-leb, lt-leb, eq-eqb, ne-eqb}
-use Rattle.lists.specs.Lists.{pick, _∈_, keep, Place}
+use Rattle.lists.specs.Lists.{keep}
 use Rattle.lists.proofs.Tests.{either}
 use Rattle.lists.proofs.Keep.{keep-fewer, keep-same}
 use Rattle.lists.proofs.Maps.{map-length}
@@ -18,8 +17,8 @@ use Rattle.lists.proofs.Places.{place-in, place-map, place-below}
 use Rattle.model.specs.Task.{Task}
 use Rattle.model.specs.Rows.{GoodTask}
 use Rattle.model.specs.Bounds.{preemptive, higher, lower}
-use Rattle.gather.specs.Picked.{between, picked, Held}
-use Rattle.gather.proofs.Picks.{picked-rows}
+use Rattle.gather.specs.Picked.{between, picked, Front, Held}
+use Rattle.gather.proofs.Picks.{picked-rows, front-same}
 
 -- a key above p, of those up to 255
 between-above : (p k : ℕ) → k ≤ 255 → between (p + 1) 255 k ≡ ltb p k
@@ -107,6 +106,24 @@ module _ (rows : List Task) (i : ℕ) (t : Task) (f : Task → ℕ) (priorities 
       ≡ map f (t ∷ higher rows t)
   own-first out some =
       rw (take-suc-set out 0 (getD values i 0) some, held-value, higher-picked)
+
+  -- so they stand at the front, no more of them than rows
+  module _ (out new : List ℕ) (n : ℕ) (some : 0 < length out)
+      (e : Front (take 1 (set out 0 (getD values i 0)) ++ picked (getD priorities i 0 + 1) 255 priorities values)
+      (set out 0 (getD values i 0)) new n) where
+    pub own-front : Front (map f (t ∷ higher rows t)) out new n
+    own-front =
+        let list = front-same e (own-first out some) in
+        record {
+          count = list .count;
+          whole =
+              list .whole
+              ∙ ap (λ (l : List ℕ). map f (t ∷ higher rows t) ++ l)
+              (drop-set-lt n out 0 (getD values i 0) (omega (arith, list .count)));
+        }
+
+    pub front-few : n ≤ length priorities
+    front-few = omega (arith, own-front .count, ap length higher-picked, higher-few)
 
   -- the lower rows' values
   pub lower-picked : picked 0 (getD priorities i 0 - 1) priorities values ≡ map f (lower rows t)

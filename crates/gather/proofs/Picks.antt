@@ -1,15 +1,15 @@
 -- Picking the values of some rows, row by row, and what is picked of the slices that hold a core's rows.
-use Prim.Native.Nat.{ℕ, zero, suc, _+_, _≤_, _<_}
+use Prim.Native.Nat.{ℕ, suc, _+_, _≤_, _<_}
 use mathlib.Core.Path.{_≡_, refl, sym, ap, _∙_}
 use mathlib.Core.Bool.{Bool, true, false}
 use mathlib.Core.List.{List, [], _∷_, _++_, map}
 use native.Mathlib.Numerals.{add-one}
 use native.Mathlib.Omega.{arith}
 use lib.ListN.{length, getD, take, drop, set, drop-of-length-le}
-use lib.Seq.{drop-cons, take-suc-set, append-snoc}
+use lib.Seq.{drop-cons, take-suc-set, take-at, append-snoc}
 use Rattle.lists.specs.Lists.{pick, keep}
 use Rattle.model.specs.Task.{Task}
-use Rattle.gather.specs.Picked.{between, picked}
+use Rattle.gather.specs.Picked.{between, picked, Front}
 
 module _ (low high : ℕ) (ks vs : List ℕ) where
   -- past the last key there is nothing
@@ -64,3 +64,12 @@ picked-short low high (k ∷ ks) (v ∷ vs) = go (between low high k) (picked-sh
         → length (pick b (v ∷ picked low high ks vs) (picked low high ks vs)) ≤ length (k ∷ ks)
     go true h = omega arith
     go false h = omega arith
+
+-- what stands at the front
+pub front-take : {list old new : List ℕ} {n : ℕ} → Front list old new n → take n new ≡ list
+front-take {list} {old} {new} {n} f = rw (f .whole) (take-at list (drop n old) n (sym (f .count)))
+
+-- the same list, by another name
+pub front-same : {list other old new : List ℕ} {n : ℕ} → Front list old new n → list ≡ other → Front other old new n
+front-same {list} {other} {old} {new} {n} f e =
+    record { count = f .count ∙ ap length e; whole = f .whole ∙ ap (λ (l : List ℕ). l ++ drop n old) e }

@@ -2,7 +2,8 @@
 use Prim.Native.Nat.{ℕ}
 use mathlib.Core.Path.{_≡_}
 use mathlib.Core.Bool.{Bool, false}
-use mathlib.Core.List.{List, [], _∷_, map}
+use mathlib.Core.List.{List, [], _∷_, _++_, map}
+use lib.ListN.{length, drop}
 use lib.Dec.{leb}
 use Rattle.lists.specs.Lists.{pick, largest, Place}
 use Rattle.model.specs.Task.{Task}
@@ -17,6 +18,11 @@ unfoldable pub picked : ℕ → ℕ → List ℕ → List ℕ → List ℕ
 picked low high [] vs = []
 picked low high (k ∷ ks) [] = []
 picked low high (k ∷ ks) (v ∷ vs) = pick (between low high k) (v ∷ picked low high ks vs) (picked low high ks vs)
+
+-- n elements at the front of new are the list, and those past them are old's
+pub record Front (list old new : List ℕ) (n : ℕ) : Type 0 where
+  pub count : n ≡ length list
+  pub whole : new ≡ list ++ drop n old
 
 -- a row's longest part
 abbrev pub longestPart : Task → ℕ

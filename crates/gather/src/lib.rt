@@ -6,7 +6,7 @@ ghost use lib.ListN.{length, take};
 ghost use Rattle.lists.specs.Lists.{keep, largest};
 ghost use Rattle.model.specs.Task.{Task};
 ghost use Rattle.model.specs.Bounds.{preemptive, higher, blocking};
-ghost use Rattle.gather.specs.Picked.{between, picked, longestPart, Held};
+ghost use Rattle.gather.specs.Picked.{between, picked, Front, longestPart, Held};
 
 // Whether a key lies from low to high.
 fn is_between(low: u32, high: u32, key: u32) -> bool
@@ -29,8 +29,8 @@ fn gather_between(
 ) -> usize
     requires { ⌜ length (now keys) ≡ length (now values) ⌝ }
     requires { ⌜ at + length (picked low high (now keys) (now values)) ≤ length (now out) ⌝ }
-    ensures { λ r. ⌜ r ≡ at + length (picked low high (now (keys .entry)) (now (values .entry))) ⌝ }
-    ensures { λ r. ⌜ take r (now (out .exit)) ≡ take at (now (out .entry)) ++ picked low high (now (keys .entry)) (now (values .entry)) ⌝ }
+    ensures { λ r. ⌜ Front (take at (now (out .entry)) ++ picked low high (now (keys .entry)) (now (values .entry)))
+        (now (out .entry)) (now (out .exit)) r ⌝ }
 {
     let mut m = at;
     let mut i: usize = 0;
@@ -69,7 +69,7 @@ pub fn gather_higher(priorities: &[u32], values: &[u32], own: usize, out: &mut [
     requires { ⌜ length (now priorities) ≤ length (now out) ⌝ }
     ensures { λ n. ⌜ n ≤ length (now (priorities .entry)) ⌝ }
     ensures { λ n. ⌜ ((rows : List Task) (t : Task) (f : Task → ℕ) → Held rows own t f (now (priorities .entry)) (now (values .entry))
-        → take n (now (out .exit)) ≡ map f (t ∷ higher rows t)) ⌝ }
+        → Front (map f (t ∷ higher rows t)) (now (out .entry)) (now (out .exit)) n) ⌝ }
 {
     out[0] = values[own];
     let low = priorities[own] + 1;
@@ -82,7 +82,7 @@ pub fn gather_preemptive(kinds: &[u32], values: &[u32], out: &mut [u32]) -> usiz
     requires { ⌜ length (now kinds) ≤ length (now out) ⌝ }
     ensures { λ n. ⌜ n ≤ length (now (kinds .entry)) ⌝ }
     ensures { λ n. ⌜ ((rows : List Task) (f : Task → ℕ) → now (kinds .entry) ≡ map (λ u. u .kind) rows → now (values .entry) ≡ map f rows
-        → take n (now (out .exit)) ≡ map f (keep preemptive rows)) ⌝ }
+        → Front (map f (keep preemptive rows)) (now (out .entry)) (now (out .exit)) n) ⌝ }
 {
     gather_between(kinds, values, 0, 0, 0, &mut *out)
 }

@@ -1,8 +1,8 @@
 -- Laws of `blocking`. Only this file opens it.
 use Prim.Native.Nat.{ℕ, _≤_, _<_}
-use mathlib.Core.Path.{_≡_, refl}
-use mathlib.Core.Bool.{Bool, true, false}
-use mathlib.Core.List.{List, [], _∷_, map}
+use mathlib.Core.Path.{_≡_}
+use mathlib.Core.Bool.{true, false}
+use mathlib.Core.List.{List, map}
 use native.Mathlib.Nat.{le-trans}
 use native.Mathlib.Omega.{arith}
 use Rattle.lists.specs.Lists.{_∈_, largest}

@@ -1,6 +1,6 @@
 -- A climb from below reaches the least solution of x ≡ g x, for a g that never falls; where one exists; warm starts.
 use Prim.Native.Nat.{ℕ, zero, suc, _+_, _-_, _≤_, _<_}
-use mathlib.Core.Path.{_≡_, refl, sym, ap, subst, _∙_}
+use mathlib.Core.Path.{_≡_, refl, sym, subst}
 use mathlib.Core.Logic.{⊎-elim}
 use native.Mathlib.Nat.{eq-or-lt-of-le, le-trans, le-of-eq, le-refl, add-zero}
 use native.Mathlib.Omega.{arith}

@@ -1,12 +1,11 @@
 -- The work that rows ask for never falls, and the window's equation: its right side and where its search begins.
 use Prim.Native.Nat.{ℕ, suc, _+_, _*_, _≤_, _<_}
-use mathlib.Core.Path.{_≡_, refl, sym, ap, _∙_}
-use mathlib.Core.List.{List, [], _∷_}
+use mathlib.Core.Path.{_≡_, refl, sym, ap}
+use mathlib.Core.List.{List}
 use native.Mathlib.Nat.{le-trans, le-of-eq, mul-le-mul-right}
 use native.Mathlib.Omega.{arith}
 use Rattle.lists.specs.Lists.{_∈_, total}
 use Rattle.lists.proofs.Totals.{total-le, total-same}
-use Rattle.model.specs.declared.Found.the-variants.{At, Nothing}
 use Rattle.model.specs.Task.{Task, cost, partsBefore}
 use Rattle.model.specs.Least.{least, Mono}
 use Rattle.model.specs.Bounds.{before, through, higher, blocking, demand, window, preemptiveEnd, limit}

@@ -1,8 +1,8 @@
 -- In a window every job has its starts and ends: within the window and after the job's release.
-use Prim.Native.Nat.{ℕ, zero, suc, _+_, _-_, _*_, _≤_, _<_, suc-le-suc}
-use mathlib.Core.Path.{_≡_, refl, sym, ap, _∙_}
-use mathlib.Core.Bool.{Bool, true, false}
-use mathlib.Core.List.{List, [], _∷_}
+use Prim.Native.Nat.{ℕ, suc, _+_, _-_, _*_, _≤_, _<_, suc-le-suc}
+use mathlib.Core.Path.{_≡_, ap, _∙_}
+use mathlib.Core.Bool.{true, false}
+use mathlib.Core.List.{List}
 use native.Mathlib.Nat.{le-refl, le-trans, mul-le-mul-right, suc-mul, add-mul}
 use native.Mathlib.Omega.{arith}
 use lib.Dec.{ltb}
@@ -10,9 +10,8 @@ use borrow.Author.Tests.{lt-ltb}
 use Rattle.lists.specs.Lists.{_∈_, keep, total}
 use Rattle.lists.proofs.Tests.{by-test, not-below}
 use Rattle.lists.proofs.Totals.{total-le, total-join}
-use Rattle.model.specs.declared.Found.{Found}
-use Rattle.model.specs.declared.Found.the-variants.{At, Nothing}
-use Rattle.model.specs.Least.{least, IsLeast, Mono}
+use Rattle.model.specs.declared.Found.the-variants.{At}
+use Rattle.model.specs.Least.{IsLeast, Mono}
 use Rattle.model.specs.Task.{Task, cost, part, parts, partsBefore}
 use Rattle.model.specs.Rows.{GoodTask, GoodCore}
 use Rattle.model.specs.Bounds.{limit, preemptive, cooperative, before, through, higher, blocking, demand, window}

@@ -1,7 +1,6 @@
 -- The samples hold. The short ones compute; at the limit a lemma begins the search where it ends.
 use Prim.Native.Nat.{ℕ}
 use mathlib.Core.Path.{_≡_, refl, _∙_}
-use mathlib.Core.List.{List, [], _∷_}
 use native.Mathlib.Omega.{arith}
 use lib.Dec.{lit<}
 use Rattle.lists.specs.Lists.{keep, total, sum, largest}

@@ -1,6 +1,6 @@
 -- The verdict of a core says what it should, and no other verdict does.
-use Prim.Native.Nat.{ℕ, _-_, _≤_, _<_}
-use mathlib.Core.Path.{_≡_, refl, sym, ap, subst, _∙_}
+use Prim.Native.Nat.{ℕ, _≤_, _<_}
+use mathlib.Core.Path.{_≡_, refl, ap, _∙_}
 use mathlib.Core.Bool.{Bool, true, false, not}
 use mathlib.Core.List.{List, [], _∷_, List·Memᴰ·head, List·Memᴰ·tail, List·Memᴰ·cases-cons, List·Memᴰ·not-nil}
 use mathlib.Core.Option.{Option, some, none}
@@ -8,17 +8,17 @@ use mathlib.Core.Logic.{⊎-elim}
 use native.Mathlib.Nat.{le-antisymm}
 use native.Mathlib.Omega.{arith}
 use lib.Dec.{ltb, leb}
-use borrow.Author.Tests.{ltb-true, ltb-false, leb-true, leb-false, lt-leb}
+use borrow.Author.Tests.{ltb-true, ltb-false, leb-false, lt-leb}
 use Rattle.lists.specs.Lists.{_∈_, pick}
 use Rattle.lists.proofs.Tests.{by-test, never, not-below}
 use Rattle.model.specs.declared.Found.{Found}
 use Rattle.model.specs.declared.Found.the-variants.{At, Nothing}
 use Rattle.model.specs.Least.{found}
-use Rattle.model.specs.Task.{Task, parts}
+use Rattle.model.specs.Task.{Task}
 use Rattle.model.specs.Rows.{Distinct}
-use Rattle.model.specs.Bounds.{window, bound, meetsDeadline, above, highest, judgedBy, coreVerdict}
+use Rattle.model.specs.Bounds.{window, meetsDeadline, above, highest, judgedBy, coreVerdict}
 use Rattle.model.specs.Bounds.{CoreVerdict, passes, noWindow, misses}
-use Rattle.model.specs.Verdict.{lastBound, AllWindows, Passes, NoWindow, Misses, Judged}
+use Rattle.model.specs.Verdict.{lastBound, AllWindows, Judged}
 use Rattle.model.proofs.Rows.{same-row}
 
 -- what the highest row that passes a test is

@@ -1,7 +1,7 @@
 -- A row above one that has a window has a window too, and no longer one.
 use Prim.Native.Nat.{ℕ, _+_, _-_, _*_, _≤_, _<_}
-use mathlib.Core.Path.{_≡_, refl, sym, ap}
-use mathlib.Core.Bool.{Bool, true, false}
+use mathlib.Core.Path.{_≡_, ap}
+use mathlib.Core.Bool.{Bool, true}
 use mathlib.Core.List.{List}
 use mathlib.Core.Logic.{⊎-elim}
 use native.Mathlib.Nat.{le-trans, le-refl, mul-le-mul-right}
@@ -14,7 +14,7 @@ use Rattle.lists.proofs.Sums.{largest-sum}
 use Rattle.lists.proofs.Totals.{total-newly}
 use Rattle.model.specs.declared.Found.the-variants.{At}
 use Rattle.model.specs.Task.{Task, cost}
-use Rattle.model.specs.Rows.{GoodTask, GoodCore}
+use Rattle.model.specs.Rows.{GoodCore}
 use Rattle.model.specs.Bounds.{limit, cooperative, before, higher, blocking, demand, window}
 use Rattle.model.proofs.Climb.{least-exists}
 use Rattle.model.proofs.Rounding.{before-pos}

@@ -4,7 +4,7 @@ use mathlib.Core.Path.{_≡_}
 use mathlib.Core.List.{List, [], _∷_}
 use Rattle.lists.specs.Lists.{keep, total}
 use Rattle.model.specs.declared.Found.{Found}
-use Rattle.model.specs.declared.Found.the-variants.{At, Nothing}
+use Rattle.model.specs.declared.Found.the-variants.{At}
 use Rattle.model.specs.Least.{least}
 use Rattle.model.specs.Task.{Task, cost, part, partsBefore}
 use Rattle.model.specs.Bounds.{limit, preemptive, before, higher, blocking, window, jobs, start, finish, response, bound}

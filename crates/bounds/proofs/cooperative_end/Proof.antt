@@ -1,12 +1,10 @@
 -- `bounds::cooperative_end` meets its contract: the first search gives the tick after the start, the second the end.
-use Prim.Native.Nat.{ℕ, _+_, _-_, _≤_, _<_}
-use mathlib.Core.Path.{_≡_, refl, sym, ap, _∙_}
-use mathlib.Core.Bool.{true}
+use Prim.Native.Nat.{_+_, _-_, _≤_, _<_}
+use mathlib.Core.Path.{_≡_, refl, ap, _∙_}
 use native.Mathlib.Omega.{arith}
 use borrow.Author.Needs.{needs}
 use Rattle.model.specs.Least.{value}
 use Rattle.bounds.specs.Slices.{side, searched}
-use Rattle.bounds.specs.Steps.{AtPart}
 use Rattle.bounds.proofs.Walk.{in-range, higher-slices, preemptive-slices, begins}
 use Rattle.bounds.proofs.Begun.{start-range, end-begins, cooperative-ended}
 use Rattle.bounds.proofs.cooperative_end.Statement.{statement}

@@ -1,10 +1,10 @@
 -- `bounds::job_parts` meets its contract: the parts before r are raised, and the job stands before part r.
-use Prim.Native.Nat.{ℕ, _+_, _-_, _≤_, _<_}
-use mathlib.Core.Path.{_≡_, refl, sym, ap, _∙_}
+use Prim.Native.Nat.{_-_, _≤_, _<_}
+use mathlib.Core.Path.{_≡_, refl}
 use native.Mathlib.Omega.{arith}
 use borrow.Author.Needs.{needs}
-use lib.ListN.{length, getD, length-set}
-use Rattle.bounds.specs.Steps.{AtJob, AtPart}
+use lib.ListN.{length, length-set}
+use Rattle.bounds.specs.Steps.{AtJob}
 use Rattle.bounds.proofs.Walk.{in-range}
 use Rattle.bounds.proofs.Jobs.{SoFar, so-far, standing, end-range, so-far-next, job-raised}
 use Rattle.bounds.proofs.job_parts.Statement.{statement}

@@ -1,11 +1,10 @@
 -- `bounds::part_end` meets its contract: a cooperative part has its own function, and a preemptive one is one search.
-use Prim.Native.Nat.{ℕ, _+_, _≤_, _<_}
-use mathlib.Core.Path.{_≡_, refl, sym, ap, subst, _∙_}
-use mathlib.Core.Bool.{true, false}
+use Prim.Native.Nat.{_+_, _≤_, _<_}
+use mathlib.Core.Path.{sym, ap, _∙_}
+use mathlib.Core.Bool.{true}
 use native.Mathlib.Omega.{arith}
 use borrow.Author.Needs.{needs}
 use Rattle.model.specs.Least.{value}
-use Rattle.bounds.specs.Steps.{AtPart}
 use Rattle.bounds.proofs.Walk.{in-range, higher-slices, begins, preemptive-ended, as-kind}
 use Rattle.bounds.proofs.part_end.Statement.{statement}
 use Rattle.bounds.proofs.part_end.Tie as tie

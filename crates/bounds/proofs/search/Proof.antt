@@ -1,5 +1,5 @@
 -- `bounds::search` meets its contract: x is reached from below in n rounds.
-use Prim.Native.Nat.{ℕ, _+_, _-_, _≤_, _<_}
+use Prim.Native.Nat.{ℕ, _+_, _-_}
 use mathlib.Core.Path.{_≡_, sym, ap₂, subst, _∙_}
 use native.Mathlib.Omega.{arith}
 use Rattle.bounds.specs.declared.Answer.{Answer}

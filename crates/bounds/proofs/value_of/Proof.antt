@@ -1,5 +1,5 @@
 -- `bounds::value_of` meets its contract, case by case.
-use mathlib.Core.Path.{_≡_, sym, ap}
+use mathlib.Core.Path.{sym, ap}
 use borrow.Author.Needs.{needs}
 use Rattle.model.specs.Least.{value}
 use Rattle.bounds.proofs.value_of.Statement.{statement}

@@ -1,6 +1,5 @@
 -- `bounds::window_of` meets its contract: it is one search, begun at the row's C.
-use Prim.Native.Nat.{ℕ, _≤_, _<_}
-use mathlib.Core.Path.{_≡_, _∙_}
+use mathlib.Core.Path.{_∙_}
 use native.Mathlib.Omega.{arith}
 use Rattle.bounds.proofs.Asked.{has-own, demanded-slices, blocked-small, window-begins, window-answered}
 use Rattle.bounds.proofs.window_of.Statement.{statement}

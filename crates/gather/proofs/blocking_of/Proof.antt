@@ -1,10 +1,8 @@
 -- `gather::blocking_of` meets its contract: a cooperative row is blocked for the longest part among the lower rows.
-use Prim.Native.Nat.{ℕ, _+_, _-_, _≤_, _<_}
-use mathlib.Core.Path.{_≡_, refl, sym, ap, _∙_}
+use mathlib.Core.Path.{sym, ap, _∙_}
 use native.Mathlib.Omega.{arith}
 use borrow.Author.Needs.{needs}
 use borrow.Author.Tests.{eq-eqb, ne-eqb}
-use lib.ListN.{length}
 use Rattle.lists.specs.Lists.{largest}
 use Rattle.model.specs.Bounds.{cooperative}
 use Rattle.model.proofs.Blocking.{no-blocking, blocking-is}

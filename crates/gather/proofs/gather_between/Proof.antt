@@ -1,13 +1,14 @@
 -- `gather::gather_between` meets its contract: what is stored, with what the rows from i on give, is what all rows give.
-use Prim.Native.Nat.{ℕ, suc, _+_, _-_, _≤_, _<_}
-use mathlib.Core.Path.{_≡_, refl, sym, ap, _∙_}
+use Prim.Native.Nat.{ℕ, _+_, _-_, _≤_, _<_}
+use mathlib.Core.Path.{_≡_, refl, sym, ap, ap₂, _∙_}
 use mathlib.Core.Bool.{true, false}
-use mathlib.Core.List.{List, [], _∷_, _++_, append-nil}
+use mathlib.Core.List.{List, [], _++_, append-nil}
 use mathlib.Core.Logic.{⊎-elim}
 use native.Mathlib.Omega.{arith}
 use borrow.Author.Needs.{needs}
-use lib.ListN.{length, getD, take, drop, set, length-set}
-use Rattle.gather.specs.Picked.{between, picked}
+use lib.ListN.{length, getD, take, drop, set, length-set, length-append, take-append-drop}
+use lib.Seq.{drop-set-lt, drop-drop, length-take-le}
+use Rattle.gather.specs.Picked.{between, picked, Front}
 use Rattle.gather.proofs.Picks.{picked-end, picked-yes, picked-no, stored}
 use Rattle.gather.proofs.gather_between.Statement.{statement}
 use Rattle.gather.proofs.gather_between.Tie as tie
@@ -18,6 +19,7 @@ record Stored (keys values : List ℕ) (low high at : ℕ) (out₀ out : List �
   same : length out ≡ length out₀
   count : m + length (picked low high (drop i keys) (drop i values)) ≡ at + length (picked low high keys values)
   list : take m out ++ picked low high (drop i keys) (drop i values) ≡ take at out₀ ++ picked low high keys values
+  rest : drop m out ≡ drop m out₀
 
 module _ (keys values : List ℕ) (low high at : ℕ) (out₀ out : List ℕ) (m i : ℕ)
     (s : Stored keys values low high at out₀ out m i) (h : i < length keys) (k : i < length values) where
@@ -34,7 +36,11 @@ module _ (keys values : List ℕ) (low high at : ℕ) (out₀ out : List ℕ) (m
         same = simp length-set (s .same);
         count = omega (arith, s .count, ap length next);
         list = stored out m (getD values i 0) _ (room e f) ∙ ap (λ (l : List ℕ). take m out ++ l) (sym next) ∙ s .list;
+        rest = drop-set-lt (m + 1) out m (getD values i 0) (omega arith) ∙ later;
       }
+    where
+      later : drop (m + 1) out ≡ drop (m + 1) out₀
+      later = sym (drop-drop 1 m out) ∙ ap (drop 1) (s .rest) ∙ drop-drop 1 m out₀
 
   -- any other is passed over
   skip : between low high (getD keys i 0) ≡ false → Stored keys values low high at out₀ out m (i + 1)
@@ -45,7 +51,31 @@ module _ (keys values : List ℕ) (low high at : ℕ) (out₀ out : List ℕ) (m
         same = s .same;
         count = omega (arith, s .count, ap length next);
         list = ap (λ (l : List ℕ). take m out ++ l) (sym next) ∙ s .list;
+        rest = s .rest;
       }
+
+-- past the last row all are stored
+stored-all : (keys values : List ℕ) (low high at : ℕ) (out₀ out : List ℕ) (m i : ℕ)
+    → Stored keys values low high at out₀ out m i → length keys ≤ i → at + length (picked low high keys values) ≤ length out₀
+    → Front (take at out₀ ++ picked low high keys values) out₀ out m
+stored-all keys values low high at out₀ out m i s past fits =
+    record {
+      count =
+          omega (
+            arith,
+            s .count,
+            ap length none,
+            length-append (take at out₀) (picked low high keys values),
+            length-take-le at out₀ (omega arith),
+          );
+      whole = sym (take-append-drop m out) ∙ ap₂ (λ (a b : List ℕ). a ++ b) front (s .rest);
+    }
+  where
+    none : picked low high (drop i keys) (drop i values) ≡ []
+    none = picked-end low high keys values i past
+
+    front : take m out ≡ take at out₀ ++ picked low high keys values
+    front = sym (append-nil (take m out)) ∙ ap (λ (l : List ℕ). take m out ++ l) (sym none) ∙ s .list
 
 abbrev Inv-loop : tie.InvT-loop
 Inv-loop keys values low high at out₀ m₀ i₀ out m i = Stored keys values low high at out₀ out m i
@@ -64,7 +94,7 @@ valued c =
     omega (arith, c .loop-test .taken)
 
 loop-holds : tie.Need-loop-holds Inv-loop μ-loop
-loop-holds c = record { row = omega arith; same = refl; count = refl; list = refl }
+loop-holds c = record { row = omega arith; same = refl; count = refl; list = refl; rest = refl }
 
 mul-is-between : tie.Need-mul-is-between Inv-loop μ-loop
 mul-is-between c = omega arith
@@ -123,13 +153,9 @@ same-length c = c .before .loop .inv .same
 
 returns : tie.Need-returns Inv-loop μ-loop
 returns c =
-    let s = c .before .loop .inv in
     let a = c .before .before .before .before .before .args in
-    let past = picked-end (a .low) (a .high) (a .keys .now) (a .values .now) (c .before .loop .i) (c .loop-test .left) in (
-      omega (arith, s .count, ap length past),
-      sym (append-nil (take (c .before .loop .m) (c .before .loop .out)))
-          ∙ ap (λ (l : List ℕ). take (c .before .loop .m) (c .before .loop .out) ++ l) (sym past) ∙ s .list,
-    )
+    stored-all (a .keys .now) (a .values .now) (a .low) (a .high) (a .at) (a .out .now) (c .before .loop .out) (c .before .loop .m)
+    (c .before .loop .i) (c .before .loop .inv) (c .loop-test .left) (c .before .before .before .before .before .pre .1)
 
 pub gather-between-spec : {M : Type 1} → statement M
 gather-between-spec =

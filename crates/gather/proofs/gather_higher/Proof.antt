@@ -1,9 +1,9 @@
 -- `gather::gather_higher` meets its contract: its own value is stored first, and the higher rows' are gathered after it.
-use Prim.Native.Nat.{ℕ, _+_, _≤_, _<_}
-use mathlib.Core.Path.{_≡_, refl, sym, ap, _∙_}
+use Prim.Native.Nat.{_≤_, _<_}
+use mathlib.Core.Path.{_≡_, _∙_}
 use native.Mathlib.Omega.{arith}
 use lib.ListN.{length, length-set}
-use Rattle.gather.proofs.Holds.{held-length, held-below, priority-range, higher-few, own-first}
+use Rattle.gather.proofs.Holds.{held-length, held-below, priority-range, higher-few, own-front, front-few}
 use Rattle.gather.proofs.gather_higher.Statement.{statement}
 use Rattle.gather.proofs.gather_higher.Tie as tie
 
@@ -45,9 +45,10 @@ same-length c = c .before .before .gather-between .kept .1 .1 .1 .1 .1 .0 ∙ si
 returns : tie.Need-returns
 returns c =
     let s = c .before .before .before .before .before .before .before .before .before in
-    let few = higher-few _ _ _ _ _ _ (s .pre .0 .3) in (
-      omega (arith, c .before .before .gather-between .ensures .0, few),
-      λ rows t f h. c .before .before .gather-between .ensures .1 ∙ own-first rows _ t f _ _ h (s .args .out .now) (omega (arith, held s)),
+    let e = c .before .before .gather-between .ensures in
+    let some : 0 < length (s .args .out .now) = omega (arith, held s) in (
+      front-few _ _ _ _ _ _ (s .pre .0 .3) (s .args .out .now) _ _ some e,
+      λ rows t f h. own-front rows _ t f _ _ h (s .args .out .now) _ _ some e,
     )
 
 pub gather-higher-spec : {M : Type 1} → statement M

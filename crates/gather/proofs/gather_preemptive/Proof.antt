@@ -1,9 +1,7 @@
 -- `gather::gather_preemptive` meets its contract: it gathers the rows of kind 0.
-use Prim.Native.Nat.{ℕ, _+_, _≤_}
-use mathlib.Core.Path.{_≡_, refl, _∙_}
 use native.Mathlib.Omega.{arith}
 use borrow.Author.Needs.{needs}
-use Rattle.gather.proofs.Picks.{picked-short}
+use Rattle.gather.proofs.Picks.{picked-short, front-same}
 use Rattle.gather.proofs.Holds.{preemptive-picked}
 use Rattle.gather.proofs.gather_preemptive.Statement.{statement}
 use Rattle.gather.proofs.gather_preemptive.Tie as tie
@@ -19,8 +17,8 @@ same-length c = search needs
 returns : tie.Need-returns
 returns c =
     let s = c .before .before .before .before .before .before .before in (
-      omega (arith, c .before .before .gather-between .ensures .0, picked-short 0 0 (s .args .kinds .now) (s .args .values .now)),
-      λ rows f k v. c .before .before .gather-between .ensures .1 ∙ preemptive-picked rows f _ _ k v,
+      omega (arith, c .before .before .gather-between .ensures .count, picked-short 0 0 (s .args .kinds .now) (s .args .values .now)),
+      λ rows f k v. front-same (c .before .before .gather-between .ensures) (preemptive-picked rows f _ _ k v),
     )
 
 pub gather-preemptive-spec : {M : Type 1} → statement M

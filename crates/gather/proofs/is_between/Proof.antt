@@ -1,5 +1,4 @@
 -- `gather::is_between` meets its contract, by its two tests.
-use mathlib.Core.Path.{_≡_}
 use borrow.Author.Tests.{lt-leb, le-leb}
 use Rattle.gather.specs.Picked.{between}
 use Rattle.gather.proofs.is_between.Statement.{statement}

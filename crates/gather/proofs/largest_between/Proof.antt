@@ -1,11 +1,10 @@
 -- `gather::largest_between` meets its contract: the largest so far, with that of the rows from i on, is the largest of all.
-use Prim.Native.Nat.{ℕ, _+_, _-_, _≤_, _<_, max}
-use mathlib.Core.Path.{_≡_, refl, sym, ap, _∙_}
-use mathlib.Core.Bool.{true, false}
+use Prim.Native.Nat.{_-_, _≤_, _<_, max}
+use mathlib.Core.Path.{_≡_, sym, ap, _∙_}
 use mathlib.Core.Logic.{⊎-elim}
 use native.Mathlib.Omega.{arith}
 use borrow.Author.Needs.{needs}
-use lib.ListN.{length, getD, drop}
+use lib.ListN.{length, drop}
 use Rattle.lists.specs.Lists.{largest}
 use Rattle.gather.specs.Picked.{picked}
 use Rattle.gather.proofs.Picks.{picked-end, picked-yes, picked-no}
