@@ -1,3 +1,4 @@
+// A row's window and the bounds of its parts, by searches over slices of the rows' periods and costs.
 ghost use mathlib.Core.Path.{_≡_};
 ghost use Prim.Native.Nat.{_+_, _≤_, _^_};
 ghost use mathlib.Core.List.{List};
@@ -30,6 +31,7 @@ pub fn work(periods: &[u32], costs: &[u32], x: u64) -> u64
     while i < periods.len() {
         let t = periods[i] as u64;
         let c = costs[i] as u64;
+        // up(x/T) times C
         sum += (x + (t - 1)) / t * c;
         i += 1;
     }
@@ -79,7 +81,8 @@ pub struct PartEnd {
     pub next: u64,
 }
 
-// A cooperative part: its start over the higher rows, then its end over the preemptive ones alone.
+// hp, hc: the higher rows' periods and costs; pp, pc: the preemptive rows'.
+// A cooperative part: the tick after its start over the higher rows, then its end over the preemptive rows alone.
 fn cooperative_end(
     hp: &[u32],
     hc: &[u32],
@@ -93,14 +96,17 @@ fn cooperative_end(
     ensures { λ p. ⌜ ((a : AtPart (now (hp .entry)) (now (hc .entry)) (now (pp .entry)) (now (pc .entry)) true base from time)
         → Ended (a .rows) (a .t) (a .j) (a .r) (base + time) p) ⌝ }
 {
-    let through = value_of(search(hp, hc, base + 1, from + 1));
-    let least = through - 1 + time;
-    let rest = least - work(pp, pc, through);
-    let end = value_of(search(pp, pc, rest, least));
-    PartEnd { end, next: least }
+    let after = value_of(search(hp, hc, base + 1, from + 1));
+    let earliest = after - 1 + time;
+    let rest = earliest - work(pp, pc, after);
+    let end = value_of(search(pp, pc, rest, earliest));
+    PartEnd {
+        end,
+        next: earliest,
+    }
 }
 
-// The end of a part with `base` before it, for a row of either kind.
+// The end of a part with `base` before it; the search begins at `from`, which no solution lies below, and the part's time.
 fn part_end(
     hp: &[u32],
     hc: &[u32],

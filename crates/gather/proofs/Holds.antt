@@ -17,7 +17,7 @@ use Rattle.lists.proofs.Places.{place-in, place-map, place-below}
 use Rattle.model.specs.Task.{Task}
 use Rattle.model.specs.Rows.{GoodTask}
 use Rattle.model.specs.Bounds.{preemptive, higher, lower}
-use Rattle.gather.specs.Picked.{between, picked, Front, Held}
+use Rattle.gather.specs.Picked.{between, picked, Front, Held, HeldKinds}
 use Rattle.gather.proofs.Picks.{picked-rows, front-same}
 
 -- a key above p, of those up to 255
@@ -47,12 +47,18 @@ between-zero k =
     (λ none. rw (le-leb 0 k (omega arith), le-leb k 0 none, eq-eqb k 0 (omega arith)))
     (either 0 k)
 
+-- as many kinds as values
+pub kinds-length : (rows : List Task) (f : Task → ℕ) (kinds values : List ℕ) → HeldKinds rows f kinds values
+    → length kinds ≡ length values
+kinds-length rows f kinds values h =
+    ap length (h .keys) ∙ map-length (λ u. u .kind) rows ∙ sym (ap length (h .numbers) ∙ map-length f rows)
+
 -- the values of the preemptive rows
-pub preemptive-picked : (rows : List Task) (f : Task → ℕ) (kinds values : List ℕ) → kinds ≡ map (λ u. u .kind) rows
-    → values ≡ map f rows → picked 0 0 kinds values ≡ map f (keep preemptive rows)
+pub preemptive-picked : (rows : List Task) (f : Task → ℕ) (kinds values : List ℕ) → HeldKinds rows f kinds values
+    → picked 0 0 kinds values ≡ map f (keep preemptive rows)
 unfolding preemptive
-preemptive-picked rows f kinds values k v =
-    rw (k, v) (picked-rows 0 0 (λ u. u .kind) f rows ∙ ap (map f) (keep-same _ _ rows (λ u m. between-zero (u .kind))))
+preemptive-picked rows f kinds values h =
+    rw (h .keys, h .numbers) (picked-rows 0 0 (λ u. u .kind) f rows ∙ ap (map f) (keep-same _ _ rows (λ u m. between-zero (u .kind))))
 
 module _ (rows : List Task) (i : ℕ) (t : Task) (f : Task → ℕ) (priorities values : List ℕ)
     (h : Held rows i t f priorities values) where

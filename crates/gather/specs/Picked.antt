@@ -28,6 +28,11 @@ pub record Front (list old new : List ℕ) (n : ℕ) : Type 0 where
 abbrev pub longestPart : Task → ℕ
 longestPart t = largest (t .times)
 
+-- the slices hold the kinds of rows and a number f of each
+pub record HeldKinds (rows : List Task) (f : Task → ℕ) (kinds values : List ℕ) : Type 0 where
+  pub keys : kinds ≡ map (λ u. u .kind) rows
+  pub numbers : values ≡ map f rows
+
 -- row i of a core's rows is t, and the slices hold the rows' priorities and a number f of each
 pub record Held (rows : List Task) (i : ℕ) (t : Task) (f : Task → ℕ) (priorities values : List ℕ) : Type 0 where
   pub core : GoodCore rows

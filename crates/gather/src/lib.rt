@@ -6,7 +6,7 @@ ghost use lib.ListN.{length, take};
 ghost use Rattle.lists.specs.Lists.{keep, largest};
 ghost use Rattle.model.specs.Task.{Task};
 ghost use Rattle.model.specs.Bounds.{preemptive, higher, blocking};
-ghost use Rattle.gather.specs.Picked.{between, picked, Front, longestPart, Held};
+ghost use Rattle.gather.specs.Picked.{between, picked, Front, longestPart, Held, HeldKinds};
 
 // Whether a key lies from low to high.
 fn is_between(low: u32, high: u32, key: u32) -> bool
@@ -78,10 +78,10 @@ pub fn gather_higher(priorities: &[u32], values: &[u32], own: usize, out: &mut [
 
 // The values of the preemptive rows, in table order; how many there are.
 pub fn gather_preemptive(kinds: &[u32], values: &[u32], out: &mut [u32]) -> usize
-    requires { ⌜ length (now kinds) ≡ length (now values) ⌝ }
+    requires { ⌜ ((rows : List Task) × (f : Task → ℕ) × HeldKinds rows f (now kinds) (now values)) ⌝ }
     requires { ⌜ length (now kinds) ≤ length (now out) ⌝ }
     ensures { λ n. ⌜ n ≤ length (now (kinds .entry)) ⌝ }
-    ensures { λ n. ⌜ ((rows : List Task) (f : Task → ℕ) → now (kinds .entry) ≡ map (λ u. u .kind) rows → now (values .entry) ≡ map f rows
+    ensures { λ n. ⌜ ((rows : List Task) (f : Task → ℕ) → HeldKinds rows f (now (kinds .entry)) (now (values .entry))
         → Front (map f (keep preemptive rows)) (now (out .entry)) (now (out .exit)) n) ⌝ }
 {
     gather_between(kinds, values, 0, 0, 0, &mut *out)

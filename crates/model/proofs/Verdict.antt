@@ -1,6 +1,6 @@
 -- The verdict of a core says what it should, and no other verdict does.
 use Prim.Native.Nat.{ℕ, _≤_, _<_}
-use mathlib.Core.Path.{_≡_, refl, ap, _∙_}
+use mathlib.Core.Path.{_≡_, refl, sym, ap, subst, _∙_}
 use mathlib.Core.Bool.{Bool, true, false, not}
 use mathlib.Core.List.{List, [], _∷_, List·Memᴰ·head, List·Memᴰ·tail, List·Memᴰ·cases-cons, List·Memᴰ·not-nil}
 use mathlib.Core.Option.{Option, some, none}
@@ -18,7 +18,7 @@ use Rattle.model.specs.Task.{Task}
 use Rattle.model.specs.Rows.{Distinct}
 use Rattle.model.specs.Bounds.{window, meetsDeadline, above, highest, judgedBy, coreVerdict}
 use Rattle.model.specs.Bounds.{CoreVerdict, passes, noWindow, misses}
-use Rattle.model.specs.Verdict.{lastBound, AllWindows, Judged}
+use Rattle.model.specs.Verdict.{lastBound, AllWindows, Passes, Judged}
 use Rattle.model.proofs.Rows.{same-row}
 
 -- what the highest row that passes a test is
@@ -121,18 +121,25 @@ module _ (rows : List Task) where
   one-window : (t : Task) → window rows t ≡ Nothing → (L : ℕ) × (window rows t ≡ At L) → ⊥
   one-window t e w = let z : _≡_ {A = ℕ} 0 1 = (let q = w .1 in cc) in omega arith
 
-  -- and two right verdicts are the same: the verdict is `passes` exactly if every row has a window and meets its deadline
+  -- the verdict is `passes` exactly if every row has a window and meets its deadline
+  only-passes : (a : CoreVerdict) → Judged rows a → Passes rows → a ≡ passes
+  only-passes passes k i = refl
+  only-passes (noWindow u) k i = absurd (one-window u (k .none) (i .windows u (k .row)))
+  only-passes (misses u) k i = absurd (omega (arith, i .meets u (k .row), k .late))
+
+  pub passes-exactly : (coreVerdict rows ≡ passes → Passes rows) × (Passes rows → coreVerdict rows ≡ passes)
+  passes-exactly = (λ e. subst (Judged rows) e verdict-says, only-passes (coreVerdict rows) verdict-says)
+
+  -- two right verdicts are the same
   pub judged-same : Distinct rows → (a b : CoreVerdict) → Judged rows a → Judged rows b → a ≡ b
-  judged-same d passes passes i k = refl
-  judged-same d passes (noWindow u) i k = absurd (one-window u (k .none) (i .windows u (k .row)))
-  judged-same d passes (misses u) i k = absurd (omega (arith, i .meets u (k .row), k .late))
-  judged-same d (noWindow t) passes i k = absurd (one-window t (i .none) (k .windows t (i .row)))
+  judged-same d passes b i k = sym (only-passes b k i)
+  judged-same d (noWindow t) passes i k = only-passes (noWindow t) i k
   judged-same d (noWindow t) (noWindow u) i k =
       ap noWindow
       (same-row rows d t u (i .row) (k .row)
       (le-antisymm (k .top t (i .row) (i .none)) (i .top u (k .row) (k .none))))
   judged-same d (noWindow t) (misses u) i k = absurd (one-window t (i .none) (k .windows t (i .row)))
-  judged-same d (misses t) passes i k = absurd (omega (arith, k .meets t (i .row), i .late))
+  judged-same d (misses t) passes i k = only-passes (misses t) i k
   judged-same d (misses t) (noWindow u) i k = absurd (one-window u (k .none) (i .windows u (k .row)))
   judged-same d (misses t) (misses u) i k =
       ap misses

@@ -51,11 +51,11 @@ ranges c =
     let r = start-range _ _ _ _ _ _ _ (c .before .before .before .before .before .before .pre) (c .value-of .result) _ (answered c) refl in
     (r .0, r .1, r .3)
 
-sub-least : tie.Need-sub-least
-sub-least c = ranges c .0
+sub-earliest : tie.Need-sub-earliest
+sub-earliest c = ranges c .0
 
-add-least : tie.Need-add-least
-add-least c = omega (arith, ranges c)
+add-earliest : tie.Need-add-earliest
+add-earliest c = omega (arith, ranges c)
 
 work-requires : tie.Need-work-requires
 work-requires c κs =
@@ -95,8 +95,8 @@ cooperative-end-spec =
     add-search-2
     search-requires
     value-of-requires
-    sub-least
-    add-least
+    sub-earliest
+    add-earliest
     work-requires
     sub-rest
     search-requires-2

@@ -2,14 +2,14 @@
 use native.Mathlib.Omega.{arith}
 use borrow.Author.Needs.{needs}
 use Rattle.gather.proofs.Picks.{picked-short, front-same}
-use Rattle.gather.proofs.Holds.{preemptive-picked}
+use Rattle.gather.proofs.Holds.{kinds-length, preemptive-picked}
 use Rattle.gather.proofs.gather_preemptive.Statement.{statement}
 use Rattle.gather.proofs.gather_preemptive.Tie as tie
 
 gather-between-requires : tie.Need-gather-between-requires
 gather-between-requires c κs =
     let s = c .before .before .before .before in
-    (s .pre .0, omega (arith, s .pre .1, picked-short 0 0 (s .args .kinds .now) (s .args .values .now)))
+    (kinds-length _ _ _ _ (s .pre .0 .2), omega (arith, s .pre .1, picked-short 0 0 (s .args .kinds .now) (s .args .values .now)))
 
 same-length : tie.Need-same-length
 same-length c = search needs
@@ -18,7 +18,7 @@ returns : tie.Need-returns
 returns c =
     let s = c .before .before .before .before .before .before .before in (
       omega (arith, c .before .before .gather-between .ensures .count, picked-short 0 0 (s .args .kinds .now) (s .args .values .now)),
-      λ rows f k v. front-same (c .before .before .gather-between .ensures) (preemptive-picked rows f _ _ k v),
+      λ rows f h. front-same (c .before .before .gather-between .ensures) (preemptive-picked rows f _ _ h),
     )
 
 pub gather-preemptive-spec : {M : Type 1} → statement M
