@@ -26,19 +26,24 @@ pub record JobsDone (rows : List Task) (t : Task) (L j base from : ℕ) (new : L
 
 module _ (rows : List Task) (t : Task) (ps cs pp pc : List ℕ) (coop : Bool) (blocked L : ℕ) (times : List ℕ)
     (g : Gathered rows t ps cs pp pc coop blocked L times) where
+  -- the row has a period
   period : 0 < t .period
   period = period-pos rows (g .demanded .core) t (g .demanded .row)
 
+  -- and a time for each part
   count : length times ≡ parts t
   unfolding parts
   count = ap length (g .timed)
 
+  -- its window is at most the limit
   pub length-most : L ≤ 16777215
   length-most = window-most rows (g .demanded .core) t (g .demanded .row) L (g .windowed)
 
+  -- its period, as the code reads it, is in range
   pub period-most : getD ps 0 0 ≤ 16777215
   period-most = rw (own-period rows t ps cs blocked (g .demanded)) (g .demanded .core .good t (g .demanded .row) .period .most)
 
+  -- and not 0
   pub period-some : 0 < getD ps 0 0
   period-some = rw (own-period rows t ps cs blocked (g .demanded)) period
 
@@ -59,14 +64,17 @@ module _ (rows : List Task) (t : Task) (ps cs pp pc : List ℕ) (coop : Bool) (b
 
   module _ (j base from release : ℕ) (new : List ℕ) (s : JobsDone rows t L j base from new)
       (done : base ≡ blocked + j * getD cs 0 0) (released : release ≡ j * getD ps 0 0) where
+    -- what is before the job is the blocking and the jobs before it
     pub own-done : base ≡ blocking rows t + j * cost t
     own-done =
         omega (arith, done, g .demanded .blocks, ap (λ (n : ℕ). j * n) (own-cost rows t ps cs blocked (g .demanded)))
 
+    -- and its release comes after as many periods
     pub own-release : release ≡ j * t .period
     own-release = omega (arith, released, ap (λ (n : ℕ). j * n) (own-period rows t ps cs blocked (g .demanded)))
 
     module _ (more : release < L) where
+      -- a job that is released in the window is looked at
       pub looked-at : j < before t L
       looked-at = before-more t period j L (omega (arith, own-release))
 

@@ -28,9 +28,11 @@ module _ (rows : List Task) (t : Task) (ps cs : List ℕ) (blocked : ℕ) (d : D
   pub own-period : getD ps 0 0 ≡ t .period
   own-period = ap (λ (xs : List ℕ). getD xs 0 0) (d .periods)
 
+  -- so does its cost
   pub own-cost : getD cs 0 0 ≡ cost t
   own-cost = ap (λ (xs : List ℕ). getD xs 0 0) (d .costs)
 
+  -- so neither slice is empty
   pub has-own : (0 < length ps) × (0 < length cs)
   has-own = (omega (arith, ap length (d .periods)), omega (arith, ap length (d .costs)))
 

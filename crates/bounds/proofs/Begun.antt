@@ -26,9 +26,11 @@ use Rattle.bounds.specs.Steps.{Warm, AtPart, Ended}
 use Rattle.bounds.proofs.Walk.{answers, preemptive-work, time-pos, window-small, solved, reached}
 
 module _ (hp hc pp pc : List ℕ) (base from time : ℕ) (a : AtPart hp hc pp pc true base from time) where
+  -- the row is cooperative
   kind : cooperative (a .t) ≡ true
   kind = sym (a .seen .kind)
 
+  -- its start and its end exist
   range : CooperativeRange (a .rows) (a .t) (a .L) (a .r) (a .j)
   range =
       cooperative-range (a .rows) (a .seen .core) (a .t) (a .seen .row) (a .L) (a .seen .windowed) (a .r) (a .j)
@@ -46,6 +48,7 @@ module _ (hp hc pp pc : List ℕ) (base from time : ℕ) (a : AtPart hp hc pp pc
       ≡ base + 1 + work (higher (a .rows) (a .t)) (suc s)
   sides s = omega (arith, next-work s, a .done)
 
+  -- the tick after the start is the least solution that the search looks for
   the-start : IsLeast (λ z. base + 1 + work (higher (a .rows) (a .t)) z) 0 limit (suc (range .s))
   unfolding start limit
   the-start =

@@ -37,10 +37,12 @@ module _ (hp hc pp pc : List ℕ) (coop : Bool) (base from release : ℕ) (times
         rest = λ q h. refl;
       }
 
+  -- there is a time for each part
   pub count : length times ≡ parts (a .t)
   unfolding parts
   count = ap length (a .timed)
 
+  -- which is the part's
   pub time-is : (r : ℕ) → getD times r 0 ≡ part (a .t) r
   unfolding part
   time-is r = ap (λ (xs : List ℕ). getD xs r 0) (a .timed)

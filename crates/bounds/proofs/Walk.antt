@@ -59,6 +59,7 @@ module _ (hp hc pp pc : List ℕ) (coop : Bool) (base from time : ℕ) (a : AtPa
         inside (a .rows) (a .seen .core) (a .t) (a .seen .row) (a .L) (a .seen .windowed) (a .j) (a .inside),
       )
 
+  -- the window is at most the limit
   pub window-small : a .L ≤ 16777215
   window-small = window-most (a .rows) (a .seen .core) (a .t) (a .seen .row) (a .L) (a .seen .windowed)
 
@@ -74,6 +75,7 @@ module _ (hp hc pp pc : List ℕ) (coop : Bool) (base from time : ℕ) (a : AtPa
   shifted : (c : ℕ) → Warm (a .rows) (a .t) (base + c) (from + c)
   shifted c = under-shift (work (higher (a .rows) (a .t))) (work-mono (higher (a .rows) (a .t))) base c from (a .warm)
 
+  -- and there the right side lies no lower
   pub begins : (c : ℕ) → from + c ≤ side hp hc (base + c) (from + c)
   begins c =
       omega (arith, shifted c .rises, higher-work (a .rows) (a .t) (a .L) hp hc pp pc coop (a .seen) (from + c))

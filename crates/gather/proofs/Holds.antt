@@ -67,19 +67,24 @@ module _ (rows : List Task) (i : ℕ) (t : Task) (f : Task → ℕ) (priorities 
   held-length =
       ap length (h .keys) ∙ map-length (λ u. u .priority) rows ∙ sym (ap length (h .numbers) ∙ map-length f rows)
 
+  -- the row is one of them
   pub held-below : i < length priorities
   held-below =
       omega (arith, ap length (h .keys), map-length (λ u. u .priority) rows, place-below rows i t (h .row))
 
+  -- its priority stands in its place
   pub held-priority : getD priorities i 0 ≡ t .priority
   held-priority = rw (h .keys) (place-map (λ u. u .priority) rows i t (h .row))
 
+  -- and so does its value
   pub held-value : getD values i 0 ≡ f t
   held-value = rw (h .numbers) (place-map f rows i t (h .row))
 
+  -- its fields are in range
   good : GoodTask t
   good = h .core .good t (place-in rows i t (h .row))
 
+  -- so is its priority
   pub priority-range : (1 ≤ getD priorities i 0) × (getD priorities i 0 ≤ 255)
   priority-range = (rw held-priority (good .priority .least), rw held-priority (good .priority .most))
 
@@ -117,6 +122,7 @@ module _ (rows : List Task) (i : ℕ) (t : Task) (f : Task → ℕ) (priorities 
   module _ (out new : List ℕ) (n : ℕ) (some : 0 < length out)
       (e : Front (take 1 (set out 0 (getD values i 0)) ++ picked (getD priorities i 0 + 1) 255 priorities values)
       (set out 0 (getD values i 0)) new n) where
+    -- the list at the front is the row's and the higher rows'
     pub own-front : Front (map f (t ∷ higher rows t)) out new n
     own-front =
         let list = front-same e (own-first out some) in
@@ -128,6 +134,7 @@ module _ (rows : List Task) (i : ℕ) (t : Task) (f : Task → ℕ) (priorities 
               (drop-set-lt n out 0 (getD values i 0) (omega (arith, list .count)));
         }
 
+    -- which is no longer than the rows are many
     pub front-few : n ≤ length priorities
     front-few = omega (arith, own-front .count, ap length higher-picked, higher-few)
 

@@ -18,6 +18,7 @@ module _ (low high : ℕ) (ks vs : List ℕ) where
   picked-end i h = rw (drop-of-length-le ks h)
 
   module _ (i : ℕ) (hk : i < length ks) (hv : i < length vs) where
+    -- what is picked from row i on, by row i's test
     picked-row : picked low high (drop i ks) (drop i vs)
         ≡ pick (between low high (getD ks i 0)) (getD vs i 0 ∷ picked low high (drop (suc i) ks) (drop (suc i) vs))
         (picked low high (drop (suc i) ks) (drop (suc i) vs))

@@ -20,14 +20,17 @@ rows : ℕ
 unfolding sum cost part partsBefore parts keep total largest limit cooperative preemptive higher lower blocking demand
 rows = 0
 
+-- with it the rounding and the search
 sides : ℕ
 unfolding rows up down before through least scan
 sides = 0
 
+-- the verdict
 verdicts : ℕ
 unfolding found above highest judgedBy coreVerdict
 verdicts = 0
 
+-- all of it
 all : ℕ
 unfolding sides verdicts window value jobs preemptiveEnd start endFrom finish maxBelow response bound meetsDeadline printedStart printedEnd
 all = 0
@@ -37,14 +40,17 @@ windowC : window (one 16777215) (most 16777215) ≡ At 16777215
 unfolding sides
 windowC = window-from-cost (one 16777215) (most 16777215) (lit< tt) (lit< tt) ∙ refl
 
+-- its end
 endC : preemptiveEnd (one 16777215) (most 16777215) 0 0 ≡ At 16777215
 unfolding sides
 endC = end-from-own (one 16777215) (most 16777215) 0 0 (lit< tt) ∙ refl
 
+-- its bound
 boundC : bound (one 16777215) (most 16777215) 0 ≡ 16777215
 unfolding up cooperative before jobs value finish maxBelow response bound
 boundC = rw (windowC, endC)
 
+-- its verdict
 goodC : coreVerdict (one 16777215) ≡ passes
 unfolding parts meetsDeadline verdicts
 goodC = rw (windowC, boundC)
@@ -54,6 +60,7 @@ windowO : window (one 16777214) (most 16777214) ≡ Nothing
 unfolding sides
 windowO = window-from-cost (one 16777214) (most 16777214) (lit< tt) (lit< tt) ∙ refl
 
+-- its verdict
 overC : coreVerdict (one 16777214) ≡ noWindow (most 16777214)
 unfolding verdicts
 overC = rw windowO
@@ -63,14 +70,17 @@ windowD1 : window full d1 ≡ Nothing
 unfolding rows window
 windowD1 = least-never _ 1 limit (λ z a. omega (arith, before-is d1 z, up-one z))
 
+-- the lower of them
 windowD2 : window full d2 ≡ Nothing
 unfolding rows window
 windowD2 = least-never _ 1 limit (λ z a. omega (arith, before-is d1 z, up-one z, before-pos d2 (lit< tt) z a))
 
+-- the verdict names the upper
 fullD : coreVerdict full ≡ noWindow d1
 unfolding verdicts
 fullD = rw (windowD1, windowD2)
 
+-- all samples hold
 pub samples : Samples
 unfolding all
 samples =

@@ -63,6 +63,7 @@ module _ (rows : List Task) (core : GoodCore rows) (t : Task) (m : t ∈ rows) (
   asked : L ≡ blocking rows t + (before t L * cost t + work (higher rows t) L)
   asked = omega (arith, the-window rows core t m L w .solves, demand-is rows t L)
 
+  -- and it is positive
   positive : 0 < L
   positive = the-window rows core t m L w .above
 
@@ -95,6 +96,7 @@ module _ (rows : List Task) (core : GoodCore rows) (t : Task) (m : t ∈ rows) (
           (λ e.
           absurd (omega (arith, preemptive-higher rows core u n c t m (other-kind t (core .good t m) e))))
 
+  -- so it has a window
   pub higher-window : (M : ℕ) × (window rows u ≡ At M) × (M ≤ L)
   unfolding window
   higher-window =
