@@ -1,5 +1,11 @@
+pub mod Tests
+pub mod Keep
+pub mod Totals
+pub mod Sums
+pub mod Listed
+pub mod Maps
+pub mod Places
 pub mod Fronts
 pub mod Pads
 pub mod Parts
 pub mod Stores
-pub mod Tests

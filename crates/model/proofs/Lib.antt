@@ -1,0 +1,12 @@
+pub mod Least
+pub mod Climb
+pub mod Rounds
+pub mod Rounding
+pub mod Rows
+pub mod Parts
+pub mod Blocking
+pub mod Demand
+pub mod Exists
+pub mod Verdict
+pub mod Samples
+pub mod Windows
