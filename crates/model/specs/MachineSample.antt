@@ -1,0 +1,58 @@
+-- Some ticks of the machine, so that a reader sees it move: which task runs in each, and where the tasks stand then.
+use Prim.Native.Nat.{ℕ, zero, suc, _+_, _-_, _*_, _/_}
+use mathlib.Core.Path.{_≡_}
+use mathlib.Core.List.{List, [], _∷_, _++_}
+use mathlib.Core.Option.{Option, some, none}
+use lib.Dec.{leb, eqb}
+use Rattle.lists.specs.Lists.{pick}
+use Rattle.model.specs.Task.{Task, part}
+use Rattle.model.specs.Machine.{Run, Stand, runs, standAt}
+
+-- Set A
+abbrev pub a1 : Task
+a1 = record { id = 1; core = 0; kind = 0; priority = 3; period = 5; deadline = 5; times = 1 ∷ [] }
+
+abbrev pub a2 : Task
+a2 = record { id = 2; core = 0; kind = 1; priority = 2; period = 10; deadline = 10; times = 1 ∷ 2 ∷ [] }
+
+abbrev pub a3 : Task
+a3 = record { id = 3; core = 0; kind = 1; priority = 1; period = 20; deadline = 20; times = 2 ∷ 3 ∷ [] }
+
+abbrev pub setA : List Task
+setA = a1 ∷ a2 ∷ a3 ∷ []
+
+-- each task released in its first tick and then each period, every part using its worst time
+unfoldable pub periodic : (Task → ℕ) → Run
+periodic first =
+    record {
+      release = λ task t. pick (eqb (first task + (t - first task) / task .period * task .period) t) 1 0;
+      uses = λ task q r. part task r;
+    }
+
+-- the id of a task, 0 for none
+unfoldable pub idOf : Option Task → ℕ
+idOf none = 0
+idOf (some task) = task .id
+
+-- the ids of the tasks that run in the first n ticks
+unfoldable pub ranIn : List Task → Run → ℕ → List ℕ
+ranIn rows run zero = []
+ranIn rows run (suc n) = ranIn rows run n ++ (idOf (runs rows run n (standAt rows run n)) ∷ [])
+
+-- all released at tick 0
+abbrev pub together : Run
+together = periodic (λ task. 0)
+
+-- the same, but task 2 first released at tick 2
+abbrev pub second-later : Run
+second-later = periodic (λ task. pick (eqb (task .id) 2) 2 0)
+
+pub record MachineSample : Type 0 where
+  -- task 1 cuts in at tick 5, while task 3's first part is open; nothing is left to run at tick 14
+  pub all-together : ranIn setA together 16 ≡ 1 ∷ 2 ∷ 2 ∷ 2 ∷ 3 ∷ 1 ∷ 3 ∷ 3 ∷ 3 ∷ 3 ∷ 1 ∷ 2 ∷ 2 ∷ 2 ∷ 0 ∷ 1 ∷ []
+  -- before tick 6 task 3's first part has run one of its two ticks, before tick 7 it has ended, before tick 10 its job has
+  pub part-open : standAt setA together 6 a3 ≡ record { done = 0; at = 0; ran = 1 }
+  pub part-ended : standAt setA together 7 a3 ≡ record { done = 0; at = 1; ran = 0 }
+  pub job-done : standAt setA together 10 a3 ≡ record { done = 1; at = 0; ran = 0 }
+  -- task 2 is released while task 3's first part is open: the part goes on, then task 2 comes before task 3's second part
+  pub later-second : ranIn setA second-later 9 ≡ 1 ∷ 3 ∷ 3 ∷ 2 ∷ 2 ∷ 1 ∷ 2 ∷ 3 ∷ 3 ∷ []
