@@ -1,0 +1,5 @@
+pub mod Temp
+pub mod Runs
+pub mod Play
+pub mod Releases
+pub mod Ticks

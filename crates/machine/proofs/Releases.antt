@@ -1,0 +1,76 @@
+-- How many jobs of a row a stretch of ticks can release: at most `before` its length. From releases a period apart.
+use Prim.Native.Nat.{ℕ, zero, suc, _+_, _*_, _≤_, _<_}
+use mathlib.Core.Path.{_≡_, refl}
+use mathlib.Core.List.{List}
+use mathlib.Core.Logic.{_⊎_, inl, inr, ⊎-elim}
+use native.Mathlib.Omega.{arith}
+use native.Mathlib.Decide.{le-ind}
+use native.Mathlib.Nat.{add-suc, suc-mul}
+use Rattle.lists.specs.Lists.{_∈_}
+use Rattle.lists.proofs.Tests.{either}
+use Rattle.model.specs.Task.{Task, parts, part}
+use Rattle.model.specs.Rows.{Within}
+use Rattle.model.specs.Bounds.{before, through}
+use Rattle.model.specs.Machine.{Run, released, ReleasedIn, Allowed}
+use Rattle.machine.proofs.Temp.{before-more, through-more}
+use Rattle.machine.proofs.Play.{Play, period-positive}
+
+-- a count that no tick makes smaller
+pub grows : (f : ℕ → ℕ) → ((t : ℕ) → f t ≤ f (suc t)) → (t u : ℕ) → t ≤ u → f t ≤ f u
+grows f h t u = le-ind (λ (v : ℕ). f t ≤ f v) (omega arith) (λ v le i. omega (arith, h v)) u
+
+pub released-grows : (run : Run) (row : Task) (t u : ℕ) → t ≤ u → released run row t ≤ released run row u
+unfolding released
+released-grows run row = grows (λ t. released run row t) (λ t. omega arith)
+
+-- the tick that released a job
+pub when-released : (run : Run) (row : Task) (q t : ℕ) → q < released run row t → (u : ℕ) × (u < t) × ReleasedIn run row q u
+unfolding released
+when-released run row q zero h = absurd (omega arith)
+when-released run row q (suc t) h =
+    ⊎-elim (λ lt. earlier (when-released run row q t lt))
+    (λ le. (t, omega arith, record { not-before = le; by-then = h })) (either q (released run row t))
+  where
+    earlier : (u : ℕ) × (u < t) × ReleasedIn run row q u → (u : ℕ) × (u < suc t) × ReleasedIn run row q u
+    earlier w = (w .0, omega (arith, w .1), w .2)
+
+module _ (play : Play) (row : Task) (m : row ∈ play .rows) where
+  open Play play using (run, allowed)
+
+  -- each part of a released job uses from one tick to its stated time
+  pub uses-within : (q t r : ℕ) → q < released run row t → r < parts row → Within 1 (part row r) (run .uses row q r)
+  uses-within q t r h = let w = when-released run row q t h in allowed .uses row m q (w .0) r (w .2)
+
+  -- the n-th job after tick t is released n periods later or more
+  pub spaced : (t n u : ℕ) → ReleasedIn run row (released run row t + n) u → t + n * row .period ≤ u
+  spaced t zero u h =
+      ⊎-elim (λ lt. absurd (omega (arith, released-grows run row (suc u) t lt, h .by-then))) (λ le. omega arith) (either u t)
+  spaced t (suc n) u h =
+      let q : ℕ = released run row t + n in
+      let w = when-released run row q (suc u) (omega (arith, h .by-then)) in
+      let last : t + n * row .period ≤ w .0 = spaced t n (w .0) (w .2) in
+      let one-more : w .0 + row .period ≤ u = allowed .apart row m q (w .0) u (w .2) (rw add-suc at h) in
+      omega (arith, suc-mul n (row .period))
+
+  -- so more than n jobs need more than n periods
+  stretch : (t x n : ℕ) → released run row t + n < released run row (t + x) → n * row .period < x
+  stretch t x n h =
+      let w = when-released run row (released run row t + n) (t + x) h in
+      omega (arith, spaced t n (w .0) (w .2), w .1)
+
+  -- x ticks release at most `before` x jobs
+  pub at-most-before : (t x : ℕ) → released run row (t + x) ≤ released run row t + before row x
+  at-most-before t x = ⊎-elim (λ lt. absurd (too-many lt)) (λ le. le) (either _ _)
+    where
+      too-many : released run row t + before row x < released run row (t + x) → ⊥
+      too-many lt =
+          omega (arith, before-more row (before row x) x (period-positive play row m) (stretch t x (before row x) lt))
+
+  -- and with one tick more at most `through` x jobs
+  pub at-most-through : (t x : ℕ) → released run row (t + suc x) ≤ released run row t + through row x
+  at-most-through t x = ⊎-elim (λ lt. absurd (too-many lt)) (λ le. le) (either _ _)
+    where
+      too-many : released run row t + through row x < released run row (t + suc x) → ⊥
+      too-many lt =
+          let short : through row x * row .period < suc x = stretch t (suc x) (through row x) lt in
+          omega (arith, through-more row (through row x) x (period-positive play row m) (omega arith))
