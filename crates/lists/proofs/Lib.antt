@@ -1,0 +1,4 @@
+pub mod Tests
+pub mod Keep
+pub mod Totals
+pub mod Sums
