@@ -1,5 +1,6 @@
-pub mod Temp
-pub mod Runs
 pub mod Play
 pub mod Releases
+pub mod Runs
 pub mod Ticks
+pub mod Worked
+pub mod Open

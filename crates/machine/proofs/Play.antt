@@ -6,7 +6,7 @@ use mathlib.Core.Logic.{_⊎_, inl, inr, ⊎-elim}
 use native.Mathlib.Omega.{arith}
 use Rattle.lists.specs.Lists.{_∈_}
 use Rattle.lists.proofs.Tests.{either}
-use Rattle.model.specs.Task.{Task, parts, part}
+use Rattle.model.specs.Task.{Task, parts}
 use Rattle.model.specs.Rows.{GoodCore}
 use Rattle.model.specs.Machine.{Run, Allowed}
 
@@ -25,11 +25,6 @@ module _ (play : Play) (row : Task) (m : row ∈ play .rows) where
       let most = core .good row m .kind .most in
       ⊎-elim (λ lt. inl (omega arith)) (λ le. inr (omega arith)) (either (row .kind) 1)
 
-  pub period-positive : 0 < row .period
-  period-positive = core .good row m .period .least
-
+  -- its jobs have a part
   pub some-part : 0 < parts row
   some-part = core .good row m .count .least
-
-  pub part-positive : (r : ℕ) → r < parts row → 0 < part row r
-  part-positive r h = core .good row m .time r h .least

@@ -7,13 +7,14 @@ use native.Mathlib.Omega.{arith}
 use native.Mathlib.Decide.{le-ind}
 use native.Mathlib.Nat.{add-suc, suc-mul}
 use Rattle.lists.specs.Lists.{_∈_}
-use Rattle.lists.proofs.Tests.{either}
+use Rattle.lists.proofs.Tests.{either, not-below}
 use Rattle.model.specs.Task.{Task, parts, part}
 use Rattle.model.specs.Rows.{Within}
 use Rattle.model.specs.Bounds.{before, through}
 use Rattle.model.specs.Machine.{Run, released, ReleasedIn, Allowed}
-use Rattle.machine.proofs.Temp.{before-more, through-more}
-use Rattle.machine.proofs.Play.{Play, period-positive}
+use Rattle.model.proofs.Rounding.{before-more, before-suc}
+use Rattle.model.proofs.Rows.{period-pos}
+use Rattle.machine.proofs.Play.{Play}
 
 -- a count that no tick makes smaller
 pub grows : (f : ℕ → ℕ) → ((t : ℕ) → f t ≤ f (suc t)) → (t u : ℕ) → t ≤ u → f t ≤ f u
@@ -35,7 +36,7 @@ when-released run row q (suc t) h =
     earlier w = (w .0, omega (arith, w .1), w .2)
 
 module _ (play : Play) (row : Task) (m : row ∈ play .rows) where
-  open Play play using (run, allowed)
+  open Play play using (rows, run, core, allowed)
 
   -- each part of a released job uses from one tick to its stated time
   pub uses-within : (q t r : ℕ) → q < released run row t → r < parts row → Within 1 (part row r) (run .uses row q r)
@@ -60,17 +61,13 @@ module _ (play : Play) (row : Task) (m : row ∈ play .rows) where
 
   -- x ticks release at most `before` x jobs
   pub at-most-before : (t x : ℕ) → released run row (t + x) ≤ released run row t + before row x
-  at-most-before t x = ⊎-elim (λ lt. absurd (too-many lt)) (λ le. le) (either _ _)
+  at-most-before t x = not-below _ _ too-many
     where
       too-many : released run row t + before row x < released run row (t + x) → ⊥
       too-many lt =
-          omega (arith, before-more row (before row x) x (period-positive play row m) (stretch t x (before row x) lt))
+          let long : before row x * row .period < x = stretch t x (before row x) lt in
+          omega (arith, before-more row (period-pos rows core row m) (before row x) x long)
 
   -- and with one tick more at most `through` x jobs
   pub at-most-through : (t x : ℕ) → released run row (t + suc x) ≤ released run row t + through row x
-  at-most-through t x = ⊎-elim (λ lt. absurd (too-many lt)) (λ le. le) (either _ _)
-    where
-      too-many : released run row t + through row x < released run row (t + suc x) → ⊥
-      too-many lt =
-          let short : through row x * row .period < suc x = stretch t (suc x) (through row x) lt in
-          omega (arith, through-more row (through row x) x (period-positive play row m) (omega arith))
+  at-most-through t x = omega (arith, at-most-before t (suc x), before-suc row (period-pos rows core row m) x)

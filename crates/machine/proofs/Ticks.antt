@@ -11,7 +11,8 @@ use Rattle.lists.specs.Lists.{pick, _∈_}
 use Rattle.lists.proofs.Tests.{by-test, either}
 use Rattle.model.specs.Task.{Task, parts, part}
 use Rattle.model.specs.Machine.{Run, Stand, released, ranOn, isTask, runs, step, standAt}
-use Rattle.model.proofs.Highest.{same-row, priorities}
+use Rattle.model.proofs.Rows.{same-row}
+use Rattle.model.proofs.Highest.{priorities}
 use Rattle.machine.proofs.Runs.{Chosen, cuts-in, goes-on, begins, chosen, chosen-row}
 use Rattle.machine.proofs.Play.{Play, some-part}
 use Rattle.machine.proofs.Releases.{uses-within}

@@ -1,9 +1,9 @@
--- What `highest` finds: a row that passes the test, and none that passes is above it. A core's priorities tell its rows apart.
+-- What `highest` finds: a row that passes the test, and none that passes is above it.
 use Prim.Native.Nat.{ℕ, _≤_, _<_}
-use mathlib.Core.Path.{_≡_, refl, sym, ap, _∙_}
+use mathlib.Core.Path.{_≡_, refl, ap, _∙_}
 use mathlib.Core.List.{List, [], _∷_, List·Memᴰ·head, List·Memᴰ·tail, List·Memᴰ·cases-cons, List·Memᴰ·not-nil}
 use mathlib.Core.Option.{Option, some, none}
-use mathlib.Core.Logic.{_⊎_, inl, inr, ⊎-elim}
+use mathlib.Core.Logic.{⊎-elim}
 use mathlib.Core.Bool.{Bool, true, false}
 use native.Mathlib.Omega.{arith}
 use lib.Dec.{ltb}
@@ -11,7 +11,6 @@ use borrow.Author.Tests.{ltb-true, ltb-false}
 use Rattle.lists.specs.Lists.{pick, _∈_}
 use Rattle.lists.proofs.Tests.{never}
 use Rattle.model.specs.Task.{Task}
-use Rattle.model.specs.Rows.{Distinct}
 use Rattle.model.specs.Bounds.{above, highest}
 
 -- the rows' highest that passes, or that none passes
@@ -56,16 +55,3 @@ highest-is p (t ∷ ts) = go (p t) refl (highest p ts) (highest-is p ts)
       i .1,
       λ u m q. ⊎-elim (λ k. absurd (never q (ap p k ∙ e))) (λ k. i .2 u k q) (List·Memᴰ·cases-cons m),
     )
-
--- two rows of one priority are one row
-pub same-row : (rows : List Task) → Distinct rows → (a b : Task) → a ∈ rows → b ∈ rows → a .priority ≡ b .priority → a ≡ b
-unfolding Distinct
-same-row [] d a b m n e = absurd (List·Memᴰ·not-nil m)
-same-row (t ∷ ts) d a b m n e =
-    go (List·Memᴰ·cases-cons m) (List·Memᴰ·cases-cons n) (λ p q. same-row ts (d .1) a b p q e)
-  where
-    go : (a ≡ t) ⊎ (a ∈ ts) → (b ≡ t) ⊎ (b ∈ ts) → (a ∈ ts → b ∈ ts → a ≡ b) → a ≡ b
-    go (inl p) (inl q) below = p ∙ sym q
-    go (inl p) (inr q) below = absurd (d .0 b q (sym (priorities p) ∙ e))
-    go (inr p) (inl q) below = absurd (d .0 a p (sym (e ∙ priorities q)))
-    go (inr p) (inr q) below = below p q
