@@ -1,2 +1,13 @@
 pub mod Highest
 pub mod MachineSample
+pub mod Least
+pub mod Climb
+pub mod Rounds
+pub mod Rounding
+pub mod Rows
+pub mod Parts
+pub mod Blocking
+pub mod Demand
+pub mod Exists
+pub mod Verdict
+pub mod Samples

@@ -4,3 +4,6 @@ pub mod Least
 pub mod Bounds
 pub mod Machine
 pub mod MachineSample
+pub mod Ranges
+pub mod Verdict
+pub mod Samples
