@@ -11,7 +11,7 @@ use Rattle.lists.specs.Lists.{_∈_}
 use Rattle.model.specs.Task.{Task}
 use Rattle.model.specs.Bounds.{preemptive, cooperative, highest}
 use Rattle.model.specs.Machine.{Run, Stand, released, pending, pendingPreemptive, pendingCooperative, openCooperative, _ifNone_, runs}
-use Rattle.model.proofs.Highest.{IsHighest, highest-is}
+use Rattle.model.proofs.Verdict.{Best, highest-best}
 
 -- two tests pass together exactly if each does
 both-pass : (a b : Bool) → (a && b) ≡ true → (a ≡ true) × (b ≡ true)
@@ -74,11 +74,11 @@ module _ (rows : List Task) (run : Run) (t : ℕ) (now : Task → Stand) where
   unfolding runs _ifNone_
   chosen =
       go (highest (pendingPreemptive run t now) rows) (highest (openCooperative now) rows)
-      (highest (pendingCooperative run t now) rows) (highest-is (pendingPreemptive run t now) rows)
-      (highest-is (openCooperative now) rows) (highest-is (pendingCooperative run t now) rows)
+      (highest (pendingCooperative run t now) rows) (highest-best (pendingPreemptive run t now) rows)
+      (highest-best (openCooperative now) rows) (highest-best (pendingCooperative run t now) rows)
     where
-      go : (a b c : Option Task) → IsHighest (pendingPreemptive run t now) rows a → IsHighest (openCooperative now) rows b
-          → IsHighest (pendingCooperative run t now) rows c → Chosen (a ifNone (b ifNone c))
+      go : (a b c : Option Task) → Best (pendingPreemptive run t now) rows a → Best (openCooperative now) rows b
+          → Best (pendingCooperative run t now) rows c → Chosen (a ifNone (b ifNone c))
       go (some s) b c i j k = cuts-in (i .0) (preemptive-waits s (i .1)) (λ u m w. i .2 u m (waits-preemptive u w))
       go none (some s) c i j k = goes-on (j .0) (cooperative-open s (j .1)) (λ u m w. i u m (waits-preemptive u w))
       go none none (some s) i j k =

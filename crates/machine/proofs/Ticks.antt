@@ -12,10 +12,13 @@ use Rattle.lists.proofs.Tests.{by-test, either}
 use Rattle.model.specs.Task.{Task, parts, part}
 use Rattle.model.specs.Machine.{Run, Stand, released, ranOn, isTask, runs, step, standAt}
 use Rattle.model.proofs.Rows.{same-row}
-use Rattle.model.proofs.Highest.{priorities}
 use Rattle.machine.proofs.Runs.{Chosen, cuts-in, goes-on, begins, chosen, chosen-row}
 use Rattle.machine.proofs.Play.{Play, some-part}
 use Rattle.machine.proofs.Releases.{uses-within}
+
+-- equal tasks have one priority
+pub priorities : {u v : Task} → u ≡ v → u .priority ≡ v .priority
+priorities e = ap (λ (w : Task). w .priority) e
 
 -- one task runs in a tick
 pub only : {o : Option Task} {s u : Task} → o ≡ some s → o ≡ some u → s ≡ u
@@ -63,9 +66,9 @@ module _ (play : Play) where
   pub ran-on : (row : Task) (s : Stand) (P : Stand → Type 0)
       → (suc (s .ran) < run .uses row (s .done) (s .at) → P (record { done = s .done; at = s .at; ran = suc (s .ran) }))
       → (run .uses row (s .done) (s .at) ≤ suc (s .ran) → suc (s .at) < parts row
-        → P (record { done = s .done; at = suc (s .at); ran = 0 }))
+      → P (record { done = s .done; at = suc (s .at); ran = 0 }))
       → (run .uses row (s .done) (s .at) ≤ suc (s .ran) → parts row ≤ suc (s .at)
-        → P (record { done = suc (s .done); at = 0; ran = 0 }))
+      → P (record { done = suc (s .done); at = 0; ran = 0 }))
       → P (ranOn row (run .uses row (s .done) (s .at)) s)
   unfolding ranOn
   ran-on row s P on part job =
@@ -117,9 +120,9 @@ module _ (play : Play) where
           record {
             fits = g .fits;
             within = λ w.
-              ⊎-elim (λ lt. g .within lt)
-              (λ le. omega (arith, g .rested le, uses-within play row m _ (suc t) _ w (g .fits) .least))
-              (either (now t row .done) (released run row t));
+                ⊎-elim (λ lt. g .within lt)
+                (λ le. omega (arith, g .rested le, uses-within play row m _ (suc t) _ w (g .fits) .least))
+                (either (now t row .done) (released run row t));
             known = omega (arith, g .known);
             rested = λ h. g .rested (omega arith);
           }

@@ -1,5 +1,3 @@
-pub mod Highest
-pub mod MachineSample
 pub mod Least
 pub mod Climb
 pub mod Rounds
@@ -11,3 +9,4 @@ pub mod Demand
 pub mod Exists
 pub mod Verdict
 pub mod Samples
+pub mod MachineSample

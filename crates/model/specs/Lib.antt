@@ -2,8 +2,8 @@ pub mod Task
 pub mod Rows
 pub mod Least
 pub mod Bounds
-pub mod Machine
-pub mod MachineSample
 pub mod Ranges
 pub mod Verdict
 pub mod Samples
+pub mod Machine
+pub mod MachineSample

@@ -6,20 +6,9 @@ use mathlib.Core.Option.{Option, some, none}
 use lib.Dec.{leb, eqb}
 use Rattle.lists.specs.Lists.{pick}
 use Rattle.model.specs.Task.{Task, part}
+use Rattle.model.specs.Bounds.{bound}
 use Rattle.model.specs.Machine.{Run, Stand, runs, standAt}
-
--- Set A
-abbrev pub a1 : Task
-a1 = record { id = 1; core = 0; kind = 0; priority = 3; period = 5; deadline = 5; times = 1 ∷ [] }
-
-abbrev pub a2 : Task
-a2 = record { id = 2; core = 0; kind = 1; priority = 2; period = 10; deadline = 10; times = 1 ∷ 2 ∷ [] }
-
-abbrev pub a3 : Task
-a3 = record { id = 3; core = 0; kind = 1; priority = 1; period = 20; deadline = 20; times = 2 ∷ 3 ∷ [] }
-
-abbrev pub setA : List Task
-setA = a1 ∷ a2 ∷ a3 ∷ []
+use Rattle.model.specs.Samples.{row, a3, setA}
 
 -- each task released in its first tick and then each period, every part using its worst time
 unfoldable pub periodic : (Task → ℕ) → Run
@@ -47,12 +36,26 @@ together = periodic (λ task. 0)
 abbrev pub second-later : Run
 second-later = periodic (λ task. pick (eqb (task .id) 2) 2 0)
 
+-- two cooperative rows, T 3 C 1 above T 20 C 5
+abbrev pub e1 : Task
+e1 = row 1 1 2 3 3 (1 ∷ [])
+
+abbrev pub e2 : Task
+e2 = row 2 1 1 20 20 (5 ∷ [])
+
+abbrev pub both : List Task
+both = e1 ∷ e2 ∷ []
+
 pub record MachineSample : Type 0 where
-  -- task 1 cuts in at tick 5, while task 3's first part is open; nothing is left to run at tick 14
-  pub all-together : ranIn setA together 16 ≡ 1 ∷ 2 ∷ 2 ∷ 2 ∷ 3 ∷ 1 ∷ 3 ∷ 3 ∷ 3 ∷ 3 ∷ 1 ∷ 2 ∷ 2 ∷ 2 ∷ 0 ∷ 1 ∷ []
-  -- before tick 6 task 3's first part has run one of its two ticks, before tick 7 it has ended, before tick 10 its job has
-  pub part-open : standAt setA together 6 a3 ≡ record { done = 0; at = 0; ran = 1 }
-  pub part-ended : standAt setA together 7 a3 ≡ record { done = 0; at = 1; ran = 0 }
-  pub job-done : standAt setA together 10 a3 ≡ record { done = 1; at = 0; ran = 0 }
+  -- Set A: task 1 cuts in at tick 5, while task 3's first part is open; at tick 14 nothing is left to run
+  pub all-together : ranIn (setA 20) together 16 ≡ 1 ∷ 2 ∷ 2 ∷ 2 ∷ 3 ∷ 1 ∷ 3 ∷ 3 ∷ 3 ∷ 3 ∷ 1 ∷ 2 ∷ 2 ∷ 2 ∷ 0 ∷ 1 ∷ []
+  -- task 3's first part: before tick 6 it has run one of its two ticks, before tick 7 it has ended, at its bound
+  pub part-open : standAt (setA 20) together 6 (a3 20) ≡ record { done = 0; at = 0; ran = 1 }
+  pub part-ended : standAt (setA 20) together 7 (a3 20) ≡ record { done = 0; at = 1; ran = 0 }
+  -- its second part ends at its bound too, before tick 10, and with it the job
+  pub job-done : standAt (setA 20) together 10 (a3 20) ≡ record { done = 1; at = 0; ran = 0 }
   -- task 2 is released while task 3's first part is open: the part goes on, then task 2 comes before task 3's second part
-  pub later-second : ranIn setA second-later 9 ≡ 1 ∷ 3 ∷ 3 ∷ 2 ∷ 2 ∷ 1 ∷ 2 ∷ 3 ∷ 3 ∷ []
+  pub later-second : ranIn (setA 20) second-later 9 ≡ 1 ∷ 3 ∷ 3 ∷ 2 ∷ 2 ∷ 1 ∷ 2 ∷ 3 ∷ 3 ∷ []
+  -- a higher cooperative task does not delay a part that has begun: not in the machine, and not in the bound
+  pub begun-goes-on : ranIn both together 7 ≡ 1 ∷ 2 ∷ 2 ∷ 2 ∷ 2 ∷ 2 ∷ 1 ∷ []
+  pub begun-bound : bound both e2 0 ≡ 6
