@@ -2,3 +2,4 @@ pub mod Tests
 pub mod Keep
 pub mod Totals
 pub mod Sums
+pub mod Members

@@ -4,3 +4,9 @@ pub mod Runs
 pub mod Ticks
 pub mod Worked
 pub mod Open
+pub mod Busy
+pub mod Count
+pub mod Quiet
+pub mod Job
+pub mod Ends
+pub mod NoRunIsLater

@@ -8,7 +8,7 @@ use native.Mathlib.Omega.{arith}
 use lib.Dec.{ltb, eqb}
 use borrow.Author.Tests.{ltb-true, ltb-false, eqb-true, eqb-false}
 use Rattle.lists.specs.Lists.{pick, _∈_}
-use Rattle.lists.proofs.Tests.{by-test, either}
+use Rattle.lists.proofs.Tests.{by-test, either, not-below}
 use Rattle.model.specs.Task.{Task, parts, part}
 use Rattle.model.specs.Machine.{Run, Stand, released, ranOn, isTask, runs, step, standAt}
 use Rattle.model.proofs.Rows.{same-row}
@@ -132,3 +132,12 @@ module _ (play : Play) where
   stands zero row m =
       record { fits = some-part play row m; within = λ h. absurd (omega arith); known = omega arith; rested = λ h. refl }
   stands (suc t) row m = stands-next t row m (stands t row m)
+
+  -- a part that has run a tick is of a released job, and has ticks left, within its worst time
+  pub open-uses : (t : ℕ) (row : Task) → row ∈ rows → 0 < now t row .ran
+      → (now t row .ran < run .uses row (now t row .done) (now t row .at))
+      × (run .uses row (now t row .done) (now t row .at) ≤ part row (now t row .at))
+  open-uses t row m o =
+      let g = stands t row m in
+      let begun : now t row .done < released run row t = not-below _ _ (λ le. omega (arith, g .rested (omega arith))) in
+      (g .within begun, uses-within play row m (now t row .done) t (now t row .at) begun (g .fits) .most)

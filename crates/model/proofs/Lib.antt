@@ -7,6 +7,7 @@ pub mod Parts
 pub mod Blocking
 pub mod Demand
 pub mod Exists
+pub mod Responses
 pub mod Verdict
 pub mod Samples
 pub mod MachineSample
