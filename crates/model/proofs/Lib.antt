@@ -10,4 +10,6 @@ pub mod Exists
 pub mod Responses
 pub mod Verdict
 pub mod Samples
+pub mod Computed
 pub mod MachineSample
+pub mod Begun

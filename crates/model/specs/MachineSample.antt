@@ -6,9 +6,8 @@ use mathlib.Core.Option.{Option, some, none}
 use lib.Dec.{leb, eqb}
 use Rattle.lists.specs.Lists.{pick}
 use Rattle.model.specs.Task.{Task, part}
-use Rattle.model.specs.Bounds.{bound}
 use Rattle.model.specs.Machine.{Run, Stand, runs, standAt}
-use Rattle.model.specs.Samples.{row, a3, setA}
+use Rattle.model.specs.Samples.{a3, setA}
 
 -- each task released in its first tick and then each period, every part using its worst time
 unfoldable pub periodic : (Task → ℕ) → Run
@@ -36,16 +35,6 @@ together = periodic (λ task. 0)
 abbrev pub second-later : Run
 second-later = periodic (λ task. pick (eqb (task .id) 2) 2 0)
 
--- two cooperative rows, T 3 C 1 above T 20 C 5
-abbrev pub e1 : Task
-e1 = row 1 1 2 3 3 (1 ∷ [])
-
-abbrev pub e2 : Task
-e2 = row 2 1 1 20 20 (5 ∷ [])
-
-abbrev pub both : List Task
-both = e1 ∷ e2 ∷ []
-
 pub record MachineSample : Type 0 where
   -- Set A: task 1 cuts in at tick 5, while task 3's first part is open; at tick 14 nothing is left to run
   pub all-together : ranIn (setA 20) together 16 ≡ 1 ∷ 2 ∷ 2 ∷ 2 ∷ 3 ∷ 1 ∷ 3 ∷ 3 ∷ 3 ∷ 3 ∷ 1 ∷ 2 ∷ 2 ∷ 2 ∷ 0 ∷ 1 ∷ []
@@ -56,6 +45,3 @@ pub record MachineSample : Type 0 where
   pub job-done : standAt (setA 20) together 10 (a3 20) ≡ record { done = 1; at = 0; ran = 0 }
   -- task 2 is released while task 3's first part is open: the part goes on, then task 2 comes before task 3's second part
   pub later-second : ranIn (setA 20) second-later 9 ≡ 1 ∷ 3 ∷ 3 ∷ 2 ∷ 2 ∷ 1 ∷ 2 ∷ 3 ∷ 3 ∷ []
-  -- a higher cooperative task does not delay a part that has begun: not in the machine, and not in the bound
-  pub begun-goes-on : ranIn both together 7 ≡ 1 ∷ 2 ∷ 2 ∷ 2 ∷ 2 ∷ 2 ∷ 1 ∷ []
-  pub begun-bound : bound both e2 0 ≡ 6
