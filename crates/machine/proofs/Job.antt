@@ -12,10 +12,11 @@ use Rattle.lists.proofs.Totals.{total-le, total-lt, total-add}
 use Rattle.model.specs.Task.{Task, cost}
 use Rattle.model.specs.Bounds.{before, higher, blocking, demand}
 use Rattle.model.specs.Machine.{Run, released, ReleasedIn}
+use Rattle.model.proofs.Released.{released-grows}
 use Rattle.model.proofs.Rounding.{before-covers}
 use Rattle.model.proofs.Rows.{higher-in, period-pos}
 use Rattle.machine.proofs.Play.{Play}
-use Rattle.machine.proofs.Releases.{released-grows, spaced, at-most-before}
+use Rattle.machine.proofs.Releases.{spaced, at-most-before}
 use Rattle.machine.proofs.Ticks.{now}
 use Rattle.machine.proofs.Worked.{worked, work-grows, job-at-most, waiting-work, at-most-released}
 use Rattle.machine.proofs.Busy.{upward, upward-in, Busy}

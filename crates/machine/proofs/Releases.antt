@@ -4,7 +4,6 @@ use mathlib.Core.Path.{_≡_, refl}
 use mathlib.Core.List.{List}
 use mathlib.Core.Logic.{_⊎_, inl, inr, ⊎-elim}
 use native.Mathlib.Omega.{arith}
-use native.Mathlib.Decide.{le-ind}
 use native.Mathlib.Nat.{add-suc, suc-mul}
 use Rattle.lists.specs.Lists.{_∈_}
 use Rattle.lists.proofs.Tests.{either, not-below}
@@ -12,28 +11,10 @@ use Rattle.model.specs.Task.{Task, parts, part}
 use Rattle.model.specs.Rows.{Within}
 use Rattle.model.specs.Bounds.{before, through}
 use Rattle.model.specs.Machine.{Run, released, ReleasedIn, Allowed}
+use Rattle.model.proofs.Released.{released-grows, when-released}
 use Rattle.model.proofs.Rounding.{before-more, before-suc}
 use Rattle.model.proofs.Rows.{period-pos}
 use Rattle.machine.proofs.Play.{Play}
-
--- a count that no tick makes smaller
-pub grows : (f : ℕ → ℕ) → ((t : ℕ) → f t ≤ f (suc t)) → (t u : ℕ) → t ≤ u → f t ≤ f u
-grows f h t u = le-ind (λ (v : ℕ). f t ≤ f v) (omega arith) (λ v le i. omega (arith, h v)) u
-
-pub released-grows : (run : Run) (row : Task) (t u : ℕ) → t ≤ u → released run row t ≤ released run row u
-unfolding released
-released-grows run row = grows (λ t. released run row t) (λ t. omega arith)
-
--- the tick that released a job
-pub when-released : (run : Run) (row : Task) (q t : ℕ) → q < released run row t → (u : ℕ) × (u < t) × ReleasedIn run row q u
-unfolding released
-when-released run row q zero h = absurd (omega arith)
-when-released run row q (suc t) h =
-    ⊎-elim (λ lt. earlier (when-released run row q t lt))
-    (λ le. (t, omega arith, record { not-before = le; by-then = h })) (either q (released run row t))
-  where
-    earlier : (u : ℕ) × (u < t) × ReleasedIn run row q u → (u : ℕ) × (u < suc t) × ReleasedIn run row q u
-    earlier w = (w .0, omega (arith, w .1), w .2)
 
 module _ (play : Play) (row : Task) (m : row ∈ play .rows) where
   open Play play using (rows, run, core, allowed)

@@ -11,9 +11,10 @@ use Rattle.lists.specs.Lists.{_∈_}
 use Rattle.lists.proofs.Tests.{either, not-below}
 use Rattle.model.specs.Task.{Task, parts, part, partsBefore, cost}
 use Rattle.model.specs.Machine.{Run, Stand, released, Ended}
+use Rattle.model.proofs.Released.{grows}
 use Rattle.model.proofs.Parts.{parts-zero, parts-suc, parts-mono, parts-cost, part-pos}
 use Rattle.machine.proofs.Play.{Play}
-use Rattle.machine.proofs.Releases.{grows, uses-within}
+use Rattle.machine.proofs.Releases.{uses-within}
 use Rattle.machine.proofs.Ticks.{now, next, running, tick, ran-on, stands}
 
 unfoldable pub worked : Task → Stand → ℕ

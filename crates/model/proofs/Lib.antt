@@ -10,6 +10,8 @@ pub mod Exists
 pub mod Responses
 pub mod Verdict
 pub mod Samples
+pub mod Released
+pub mod Periodic
 pub mod Computed
 pub mod MachineSample
 pub mod Begun

@@ -6,7 +6,8 @@ use mathlib.Core.Option.{Option, some, none}
 use lib.Dec.{leb, eqb}
 use Rattle.lists.specs.Lists.{pick}
 use Rattle.model.specs.Task.{Task, part}
-use Rattle.model.specs.Machine.{Run, Stand, runs, standAt}
+use Rattle.model.specs.Rows.{GoodCore}
+use Rattle.model.specs.Machine.{Run, Stand, runs, standAt, Allowed}
 use Rattle.model.specs.Samples.{a3, setA}
 
 -- each task released in its first tick and then each period, every part using its worst time
@@ -16,6 +17,10 @@ periodic first =
       release = λ task t. pick (eqb (first task + (t - first task) / task .period * task .period) t) 1 0;
       uses = λ task q r. part task r;
     }
+
+-- such a run is allowed, whatever the first ticks
+unfoldable pub PeriodicAllowed : Type 0
+PeriodicAllowed = (rows : List Task) → GoodCore rows → (first : Task → ℕ) → Allowed rows (periodic first)
 
 -- the id of a task, 0 for none
 unfoldable pub idOf : Option Task → ℕ
