@@ -1,21 +1,21 @@
 -- A row is busy in a tick in which it or a higher row is pending. Such a tick runs one of these rows, or the open part of a
 -- lower task. From the rule of who runs and the order of kinds on a good core.
-use Prim.Native.Nat.{ℕ, zero, suc, _+_, _≤_, _<_}
-use mathlib.Core.Path.{_≡_, refl, sym, ap, subst}
+use Prim.Native.Nat.{ℕ, suc, _≤_, _<_}
+use mathlib.Core.Path.{_≡_, refl, sym, subst}
 use mathlib.Core.List.{List, _∷_, List·Memᴰ·head, List·Memᴰ·tail, List·Memᴰ·cases-cons}
-use mathlib.Core.Option.{Option, some, none}
-use mathlib.Core.Logic.{_⊎_, inl, inr, ⊎-elim}
+use mathlib.Core.Option.{Option, some}
+use mathlib.Core.Logic.{_⊎_, ⊎-elim}
 use native.Mathlib.Omega.{arith}
 use native.Mathlib.Nat.{eq-or-lt-of-le}
 use Rattle.lists.specs.Lists.{_∈_}
 use Rattle.lists.proofs.Tests.{either}
 use Rattle.model.specs.Task.{Task}
 use Rattle.model.specs.Bounds.{higher}
-use Rattle.model.specs.Machine.{Run, released}
+use Rattle.model.specs.Machine.{released}
 use Rattle.model.proofs.Rows.{higher-in, in-higher, same-row}
 use Rattle.machine.proofs.Play.{Play, kinds}
 use Rattle.machine.proofs.Runs.{Chosen, cuts-in, goes-on, begins, idles, chosen, Waits, None}
-use Rattle.machine.proofs.Ticks.{now, running, tick, ran-on, priorities}
+use Rattle.machine.proofs.Ticks.{now, running, priorities}
 
 module _ (play : Play) (row : Task) (m : row ∈ play .rows) where
   open Play play using (rows, run, core)

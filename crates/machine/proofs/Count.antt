@@ -1,9 +1,8 @@
 -- Busy ticks do a tick of work each for the row and the higher ones, but for at most `blocking` ticks of a lower open part.
 -- From what a busy tick runs.
 use Prim.Native.Nat.{ℕ, zero, suc, _+_, _≤_, _<_}
-use mathlib.Core.Path.{_≡_, refl, ap, _∙_, subst}
-use mathlib.Core.List.{List}
-use mathlib.Core.Option.{Option, some, none}
+use mathlib.Core.Path.{_≡_, ap, _∙_, subst}
+use mathlib.Core.Option.{some}
 use mathlib.Core.Bool.{true}
 use native.Mathlib.Omega.{arith}
 use native.Mathlib.Nat.{add-zero, add-suc}
@@ -12,7 +11,7 @@ use Rattle.lists.specs.Lists.{_∈_, total}
 use Rattle.lists.proofs.Totals.{total-le, total-lt}
 use Rattle.model.specs.Task.{Task, part}
 use Rattle.model.specs.Bounds.{cooperative, blocking}
-use Rattle.model.specs.Machine.{Run, Stand}
+use Rattle.model.specs.Machine.{Stand}
 use Rattle.model.proofs.Blocking.{blocking-part}
 use Rattle.machine.proofs.Play.{Play}
 use Rattle.machine.proofs.Ticks.{now, running, tick, ran-on, open-uses, only, priorities}

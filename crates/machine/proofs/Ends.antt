@@ -1,10 +1,9 @@
 -- A solution of a part's equations, counted from t0, is a tick by which that part of the job has ended. From how the ticks since
 -- t0 are filled; for a cooperative row also from one open part at a time.
-use Prim.Native.Nat.{ℕ, zero, suc, _+_, _-_, _*_, _≤_, _<_}
-use mathlib.Core.Path.{_≡_, refl}
-use mathlib.Core.List.{List}
-use mathlib.Core.Option.{Option, some, none}
-use mathlib.Core.Bool.{Bool, true, false}
+use Prim.Native.Nat.{ℕ, suc, _+_, _-_, _*_, _≤_, _<_}
+use mathlib.Core.Path.{_≡_}
+use mathlib.Core.Option.{some}
+use mathlib.Core.Bool.{false}
 use mathlib.Core.Logic.{⊎-elim}
 use native.Mathlib.Omega.{arith}
 use native.Mathlib.Decide.{le-ind}
@@ -16,7 +15,7 @@ use Rattle.lists.proofs.Tests.{by-test, not-below}
 use Rattle.lists.proofs.Totals.{total-split}
 use Rattle.model.specs.Task.{Task, parts, part, partsBefore, cost}
 use Rattle.model.specs.Bounds.{before, through, higher, blocking, preemptive}
-use Rattle.model.specs.Machine.{Run, released}
+use Rattle.model.specs.Machine.{released}
 use Rattle.model.proofs.Parts.{parts-suc, parts-cost, part-pos}
 use Rattle.model.proofs.Demand.{work, workThrough}
 use Rattle.machine.proofs.Play.{Play, kinds}

@@ -1,17 +1,17 @@
 -- A released job of a row, seen from t0, the last quiet tick up to its release: it is the j-th job after t0, one of those that the
 -- window holds, and until it is done only so much other work is done. From the count since the last quiet tick.
-use Prim.Native.Nat.{ℕ, zero, suc, _+_, _-_, _*_, _≤_, _<_}
+use Prim.Native.Nat.{ℕ, suc, _+_, _-_, _*_, _≤_, _<_}
 use mathlib.Core.Path.{_≡_, refl, ap}
-use mathlib.Core.List.{List, _∷_, List·Memᴰ·head}
+use mathlib.Core.List.{List·Memᴰ·head}
 use mathlib.Core.Logic.{⊎-elim}
 use native.Mathlib.Omega.{arith}
-use native.Mathlib.Nat.{suc-mul, add-mul, mul-le-mul-right}
+use native.Mathlib.Nat.{add-mul, mul-le-mul-right}
 use Rattle.lists.specs.Lists.{_∈_, total}
 use Rattle.lists.proofs.Tests.{either, not-below}
 use Rattle.lists.proofs.Totals.{total-le, total-lt, total-add}
 use Rattle.model.specs.Task.{Task, cost}
 use Rattle.model.specs.Bounds.{before, higher, blocking, demand}
-use Rattle.model.specs.Machine.{Run, released, ReleasedIn}
+use Rattle.model.specs.Machine.{released, ReleasedIn}
 use Rattle.model.proofs.Released.{released-grows}
 use Rattle.model.proofs.Rounding.{before-covers}
 use Rattle.model.proofs.Rows.{higher-in, period-pos}

@@ -1,18 +1,13 @@
 -- Demand 3 holds: the end found for the job's place in the window bounds it, and the bound is the largest of these. From where
 -- ends lie in a window, and from ticks by which a part has ended.
-use Prim.Native.Nat.{ℕ, zero, suc, _+_, _-_, _*_, _≤_, _<_}
-use mathlib.Core.Path.{_≡_, refl, ap, _∙_}
-use mathlib.Core.List.{List}
-use mathlib.Core.Bool.{Bool, true, false}
+use Prim.Native.Nat.{ℕ, _+_, _-_, _*_, _≤_, _<_}
+use mathlib.Core.Path.{_≡_, ap, _∙_}
 use native.Mathlib.Omega.{arith}
-use Rattle.lists.specs.Lists.{_∈_}
 use Rattle.lists.proofs.Tests.{by-test}
 use Rattle.model.specs.declared.Found.the-variants.{At}
 use Rattle.model.specs.Least.{value}
-use Rattle.model.specs.Task.{Task, parts}
-use Rattle.model.specs.Rows.{GoodCore}
+use Rattle.model.specs.Task.{parts}
 use Rattle.model.specs.Bounds.{limit, before, cooperative, window, jobs, preemptiveEnd, start, endFrom, finish, response, bound}
-use Rattle.model.specs.Machine.{Run, standAt, ReleasedIn, Allowed, Ended}
 use Rattle.model.proofs.Blocking.{no-blocking}
 use Rattle.model.proofs.Exists.{the-window, preemptive-range, cooperative-range}
 use Rattle.model.proofs.Least.{least-at}

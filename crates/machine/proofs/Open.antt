@@ -1,14 +1,13 @@
 -- At most one cooperative part is open, and while it is no other cooperative task runs. From the rule of who runs.
-use Prim.Native.Nat.{ℕ, zero, suc, _+_, _≤_, _<_}
-use mathlib.Core.Path.{_≡_, refl}
-use mathlib.Core.List.{List}
-use mathlib.Core.Option.{Option, some, none}
+use Prim.Native.Nat.{ℕ, zero, suc, _<_}
+use mathlib.Core.Path.{_≡_}
+use mathlib.Core.Option.{some}
 use mathlib.Core.Logic.{_⊎_, inl, inr}
 use native.Mathlib.Omega.{arith}
 use Rattle.lists.specs.Lists.{_∈_}
 use Rattle.model.specs.Task.{Task}
-use Rattle.model.specs.Machine.{Run, Stand, standAt}
-use Rattle.machine.proofs.Runs.{Chosen, cuts-in, goes-on, begins, Open}
+use Rattle.model.specs.Machine.{standAt}
+use Rattle.machine.proofs.Runs.{Chosen, cuts-in, goes-on, begins}
 use Rattle.machine.proofs.Play.{Play}
 use Rattle.machine.proofs.Ticks.{now, running, running-chosen, tick}
 

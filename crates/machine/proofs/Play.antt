@@ -1,6 +1,6 @@
 -- A good core and an allowed run of it, and what a good core says of each of its rows.
-use Prim.Native.Nat.{ℕ, zero, suc, _≤_, _<_}
-use mathlib.Core.Path.{_≡_, refl}
+use Prim.Native.Nat.{_<_}
+use mathlib.Core.Path.{_≡_}
 use mathlib.Core.List.{List}
 use mathlib.Core.Logic.{_⊎_, inl, inr, ⊎-elim}
 use native.Mathlib.Omega.{arith}

@@ -1,8 +1,7 @@
 -- A tick is quiet for a row if all jobs of it and the higher rows that were released before are done. After the last quiet tick
 -- all ticks are busy, and the work done since then is counted. From the count of busy ticks.
 use Prim.Native.Nat.{ℕ, zero, suc, _+_, _*_, _≤_, _<_}
-use mathlib.Core.Path.{_≡_, refl, sym, subst}
-use mathlib.Core.List.{List}
+use mathlib.Core.Path.{sym, subst}
 use mathlib.Core.Logic.{_⊎_, ⊎-elim}
 use native.Mathlib.Omega.{arith}
 use native.Mathlib.Nat.{eq-or-lt-of-le}
@@ -11,10 +10,10 @@ use Rattle.lists.proofs.Members.{all-or-one}
 use Rattle.lists.proofs.Totals.{total-le}
 use Rattle.model.specs.Task.{Task, cost}
 use Rattle.model.specs.Bounds.{blocking}
-use Rattle.model.specs.Machine.{Run, released}
+use Rattle.model.specs.Machine.{released}
 use Rattle.machine.proofs.Play.{Play}
 use Rattle.machine.proofs.Ticks.{now, tick, ran-on}
-use Rattle.machine.proofs.Worked.{worked, quiet-work}
+use Rattle.machine.proofs.Worked.{quiet-work}
 use Rattle.machine.proofs.Busy.{upward, upward-in, Busy}
 use Rattle.machine.proofs.Count.{workUp, count}
 

@@ -1,8 +1,6 @@
 -- How many jobs of a row a stretch of ticks can release: at most `before` its length. From releases a period apart.
 use Prim.Native.Nat.{ℕ, zero, suc, _+_, _*_, _≤_, _<_}
-use mathlib.Core.Path.{_≡_, refl}
-use mathlib.Core.List.{List}
-use mathlib.Core.Logic.{_⊎_, inl, inr, ⊎-elim}
+use mathlib.Core.Logic.{_⊎_, ⊎-elim}
 use native.Mathlib.Omega.{arith}
 use native.Mathlib.Nat.{add-suc, suc-mul}
 use Rattle.lists.specs.Lists.{_∈_}
@@ -10,7 +8,7 @@ use Rattle.lists.proofs.Tests.{either, not-below}
 use Rattle.model.specs.Task.{Task, parts, part}
 use Rattle.model.specs.Rows.{Within}
 use Rattle.model.specs.Bounds.{before, through}
-use Rattle.model.specs.Machine.{Run, released, ReleasedIn, Allowed}
+use Rattle.model.specs.Machine.{released, ReleasedIn}
 use Rattle.model.proofs.Released.{released-grows, when-released}
 use Rattle.model.proofs.Rounding.{before-more, before-suc}
 use Rattle.model.proofs.Rows.{period-pos}

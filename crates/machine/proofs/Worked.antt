@@ -1,16 +1,15 @@
 -- The work of a task up to where it stands, each part taken at its worst time: a tick adds to it for the task that it runs and
 -- takes from none, and it says which jobs and parts have ended. From what a tick does.
-use Prim.Native.Nat.{ℕ, zero, suc, _+_, _*_, _≤_, _<_}
+use Prim.Native.Nat.{ℕ, suc, _+_, _*_, _≤_, _<_}
 use mathlib.Core.Path.{_≡_, refl, ap}
-use mathlib.Core.List.{List}
-use mathlib.Core.Option.{Option, some, none}
+use mathlib.Core.Option.{some, none}
 use mathlib.Core.Logic.{_⊎_, inl, inr, ⊎-elim}
 use native.Mathlib.Omega.{arith}
 use native.Mathlib.Nat.{suc-mul, mul-le-mul-right, eq-or-lt-of-le}
 use Rattle.lists.specs.Lists.{_∈_}
 use Rattle.lists.proofs.Tests.{either, not-below}
-use Rattle.model.specs.Task.{Task, parts, part, partsBefore, cost}
-use Rattle.model.specs.Machine.{Run, Stand, released, Ended}
+use Rattle.model.specs.Task.{Task, partsBefore, cost}
+use Rattle.model.specs.Machine.{Stand, released, Ended}
 use Rattle.model.proofs.Released.{grows}
 use Rattle.model.proofs.Parts.{parts-zero, parts-suc, parts-mono, parts-cost, part-pos}
 use Rattle.machine.proofs.Play.{Play}

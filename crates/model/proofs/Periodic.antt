@@ -1,17 +1,13 @@
 -- A periodic run is allowed: it releases at most one job of a task in a tick, and only whole periods after the first tick.
-use Prim.Native.Nat.{ℕ, zero, suc, _+_, _-_, _*_, _/_, _≤_, _<_}
-use mathlib.Core.Path.{_≡_, refl}
-use mathlib.Core.Bool.{Bool, true, false}
-use mathlib.Core.List.{List}
+use Prim.Native.Nat.{ℕ, suc, _+_, _-_, _*_, _/_, _≤_, _<_}
+use mathlib.Core.Path.{_≡_}
 use native.Mathlib.Omega.{arith}
 use native.Mathlib.Nat.{suc-mul, mul-le-mul-right}
 use lib.Dec.{eqb}
 use borrow.Author.Tests.{eqb-true}
-use Rattle.lists.specs.Lists.{pick, _∈_}
 use Rattle.lists.proofs.Tests.{by-test, not-below}
-use Rattle.model.specs.Task.{Task, parts, part}
-use Rattle.model.specs.Rows.{Within, GoodCore}
-use Rattle.model.specs.Machine.{released, ReleasedIn, Allowed}
+use Rattle.model.specs.Task.{Task}
+use Rattle.model.specs.Machine.{released, ReleasedIn}
 use Rattle.model.specs.MachineSample.{periodic, PeriodicAllowed}
 use Rattle.model.proofs.Released.{released-grows}
 

@@ -3,11 +3,11 @@ use Prim.Native.Nat.{ℕ, zero, suc, _+_, _-_, _*_, _/_}
 use mathlib.Core.Path.{_≡_}
 use mathlib.Core.List.{List, [], _∷_, _++_}
 use mathlib.Core.Option.{Option, some, none}
-use lib.Dec.{leb, eqb}
+use lib.Dec.{eqb}
 use Rattle.lists.specs.Lists.{pick}
 use Rattle.model.specs.Task.{Task, part}
 use Rattle.model.specs.Rows.{GoodCore}
-use Rattle.model.specs.Machine.{Run, Stand, runs, standAt, Allowed}
+use Rattle.model.specs.Machine.{Run, runs, standAt, Allowed}
 use Rattle.model.specs.Samples.{a3, setA}
 
 -- each task released in its first tick and then each period, every part using its worst time
