@@ -24,11 +24,13 @@ module _ (play : Play) (row : Task) (m : row ∈ play .rows) where
   abbrev pub upward : List Task
   upward = row ∷ higher rows row
 
+  -- one of them is a row of the core, no lower than this row
   pub upward-in : (u : Task) → u ∈ upward → (u ∈ rows) × (row .priority ≤ u .priority)
   upward-in u n =
       ⊎-elim (λ e. (subst (λ (v : Task). v ∈ rows) (sym e) m, omega (arith, priorities e)))
       (λ k. (let w = higher-in rows row u k in (w .0, omega (arith, w .1)))) (List·Memᴰ·cases-cons n)
 
+  -- and each such row is one of them
   pub in-upward : (u : Task) → u ∈ rows → row .priority ≤ u .priority → u ∈ upward
   in-upward u n h =
       ⊎-elim (λ e. List·Memᴰ·head (same-row rows (core .distinct) u row n m (sym e)))
@@ -52,6 +54,7 @@ module _ (play : Play) (row : Task) (m : row ∈ play .rows) where
     upper-runs : s ∈ rows → row .priority ≤ s .priority → Runs t s
     open-runs-on : Below s → 0 < now play t s .ran → Runs t s
 
+  -- a busy tick runs one of them, or a lower part that was open
   pub busy-runs : (t : ℕ) → Busy t → (s : Task) × (running play t ≡ some s) × Runs t s
   busy-runs t b = go (running play t) refl (chosen rows run t (now play t))
     where

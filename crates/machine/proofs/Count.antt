@@ -44,6 +44,7 @@ module _ (play : Play) (row : Task) (m : row ∈ play .rows) where
     pub sums : d + workUp t ≤ workUp e + low
     pub left : (u : Task) → Below play row m u → Fits low u (now play e u)
 
+  -- no tick takes from it
   workUp-keeps : (e : ℕ) → workUp e ≤ workUp (suc e)
   workUp-keeps e = total-le _ _ (upward play row m) (λ u k. keeps-work play e u (upward-in play row m u k .0))
 
@@ -88,6 +89,7 @@ module _ (play : Play) (row : Task) (m : row ∈ play .rows) where
           (λ over more o′. absurd (omega arith)) (λ over all o′. absurd (omega arith)))
           (λ q o′. absurd (q (p ∙ ap some (one-open play e s u (b .its-row) (b .kind) o (k .its-row) (k .kind) o′))))
 
+  -- one more busy tick
   count-tick : (t d e : ℕ) → Count t d e → Busy play row m e → Count t (suc d) (suc e)
   count-tick t d e c b = let w = busy-runs play row m e b in go (w .0) (w .1) (w .2)
     where

@@ -29,10 +29,11 @@ module _ (job : Job) (r : ℕ) where
   open Job job using (play, row, its-row, q)
   open Play play using (rows, run, core)
 
-  -- the row's work up to the end of the part, and up to its start
+  -- the row's work up to the end of the part
   abbrev pub partEnd : ℕ
   partEnd = q * cost row + partsBefore row (suc r)
 
+  -- and up to its start
   abbrev partStart : ℕ
   partStart = q * cost row + partsBefore row r
 
@@ -40,11 +41,12 @@ module _ (job : Job) (r : ℕ) where
   short : (d : ℕ) → doneBy job row d < partEnd → doneBy job row d < suc q * cost row
   short d lt = omega (arith, parts-cost row (suc r), suc-mul q (cost row))
 
-  -- the jobs of a row before tick f, and through tick s, counted from t0
+  -- counted from t0, the work of a row's jobs that are released before tick f
   since-before : (u : Task) → u ∈ rows → (f : ℕ)
       → doneBy job u f ≤ released run u (t0 job) * cost u + before u f * cost u
   since-before u n f = since job u n f (before u f) (at-most-before play u n (t0 job) f)
 
+  -- and the work of those through tick s
   since-through : (u : Task) → u ∈ rows → (s : ℕ)
       → doneBy job u (suc s) ≤ released run u (t0 job) * cost u + through u s * cost u
   since-through u n s = since job u n (suc s) (through u s) (at-most-through play u n (t0 job) s)
@@ -60,6 +62,7 @@ module _ (job : Job) (r : ℕ) where
   -- a cooperative row: s solves equation 11
   module _ (inside : r < parts row) (coop : row .kind ≡ 1) (s : ℕ)
       (starts : s ≡ blocking rows row + workThrough (higher rows row) s + j job * cost row + partsBefore row r) where
+    -- the part takes a tick
     one : 0 < part row r
     one = part-pos row (core .good row its-row) r inside
 

@@ -36,13 +36,16 @@ module _ (job : Job) where
   open Job job using (play, row, its-row, q, tick, is-released)
   open Play play using (rows, run, core)
 
+  -- the last quiet tick up to its release
   quiet-tick : LastQuiet play row its-row tick
   quiet-tick = last-quiet play row its-row tick
 
+  -- which all is counted from
   unfoldable pub t0 : ℕ
   unfolding quiet-tick
   t0 = quiet-tick .last
 
+  -- the job's number among those released since t0
   unfoldable pub j : ℕ
   j = q - released run row t0
 
@@ -50,6 +53,7 @@ module _ (job : Job) where
   abbrev pub doneBy : Task → ℕ → ℕ
   doneBy u d = worked u (now play (t0 + d) u)
 
+  -- and among all
   q-is : q ≡ released run row t0 + j
   unfolding t0 j
   q-is = omega (arith, released-grows run row t0 tick (quiet-tick .by-then), is-released .not-before)

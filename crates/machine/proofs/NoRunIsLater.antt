@@ -56,6 +56,7 @@ module _ (job : Job) (L : ℕ) (found : window (job .play .rows) (job .row) ≡ 
         let this : response rows row r (j job) ≡ f - j job * row .period = ap (λ o. value o - j job * row .period) e in
         omega (arith, response-at rows row r (j job) (omega (arith, looked-at)))
 
+-- demand 3
 pub no-run-is-later : NoRunIsLater
 unfolding NeverLater NoRunIsLater
 no-run-is-later rows core row m L found run allowed q r t u released inside late =

@@ -10,6 +10,7 @@ use Rattle.model.specs.Task.{Task, parts}
 use Rattle.model.specs.Rows.{GoodCore}
 use Rattle.model.specs.Machine.{Run, Allowed}
 
+-- what all proofs of this crate are about
 pub record Play : Type 0 where
   pub rows : List Task
   pub run : Run

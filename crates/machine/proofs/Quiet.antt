@@ -20,6 +20,7 @@ use Rattle.machine.proofs.Count.{workUp, count}
 module _ (play : Play) (row : Task) (m : row ∈ play .rows) where
   open Play play using (rows, run)
 
+  -- all jobs of the row and the higher ones that were released before tick t are done
   abbrev pub Quiet : ℕ → Type 0
   Quiet t = (u : Task) → u ∈ upward play row m → released run u t ≤ now play t u .done
 

@@ -12,11 +12,12 @@ use Rattle.model.specs.Bounds.{preemptive, cooperative, highest}
 use Rattle.model.specs.Machine.{Run, Stand, released, pending, pendingPreemptive, pendingCooperative, openCooperative, _ifNone_, runs}
 use Rattle.model.proofs.Verdict.{Best, highest-best}
 
--- two tests pass together exactly if each does
+-- two tests that pass together pass each
 both-pass : (a b : Bool) → (a && b) ≡ true → (a ≡ true) × (b ≡ true)
 both-pass true b e = (refl, e)
 both-pass false b e = let z : _≡_ {A = ℕ} 0 1 = cc in absurd (omega arith)
 
+-- and the other way round
 pass-both : (a b : Bool) → a ≡ true → b ≡ true → (a && b) ≡ true
 pass-both a b p q = rw (p, q)
 
@@ -29,10 +30,11 @@ module _ (rows : List Task) (run : Run) (t : ℕ) (now : Task → Stand) where
   abbrev pub Open : Task → Type 0
   Open u = (u .kind ≡ 1) × (0 < now u .ran)
 
-  -- of no row, and of no row above s
+  -- it holds of no row
   abbrev pub None : (Task → Type 0) → Type 0
   None P = (u : Task) → u ∈ rows → P u → ⊥
 
+  -- it holds of no row above s
   abbrev pub NoneAbove : Task → (Task → Type 0) → Type 0
   NoneAbove s P = (u : Task) → u ∈ rows → P u → u .priority ≤ s .priority
 
@@ -43,27 +45,32 @@ module _ (rows : List Task) (run : Run) (t : ℕ) (now : Task → Stand) where
     begins : {s : Task} → s ∈ rows → Waits 1 s → None (Waits 0) → None Open → NoneAbove s (Waits 1) → Chosen (some s)
     idles : None (Waits 0) → None (Waits 1) → Chosen none
 
-  -- the three tests pass exactly where their words hold
+  -- a pending preemptive task waits
   preemptive-waits : (u : Task) → pendingPreemptive run t now u ≡ true → Waits 0 u
   unfolding pendingPreemptive preemptive pending
   preemptive-waits u e = let w = both-pass _ _ e in (eqb-true _ _ (w .0), ltb-true _ _ (w .1))
 
+  -- and the other way round
   waits-preemptive : (u : Task) → Waits 0 u → pendingPreemptive run t now u ≡ true
   unfolding pendingPreemptive preemptive pending
   waits-preemptive u w = pass-both _ _ (eq-eqb _ _ (w .0)) (lt-ltb _ _ (w .1))
 
+  -- a pending cooperative task waits
   cooperative-waits : (u : Task) → pendingCooperative run t now u ≡ true → Waits 1 u
   unfolding pendingCooperative cooperative pending
   cooperative-waits u e = let w = both-pass _ _ e in (eqb-true _ _ (w .0), ltb-true _ _ (w .1))
 
+  -- and the other way round
   waits-cooperative : (u : Task) → Waits 1 u → pendingCooperative run t now u ≡ true
   unfolding pendingCooperative cooperative pending
   waits-cooperative u w = pass-both _ _ (eq-eqb _ _ (w .0)) (lt-ltb _ _ (w .1))
 
+  -- an open cooperative part is open
   cooperative-open : (u : Task) → openCooperative now u ≡ true → Open u
   unfolding openCooperative cooperative
   cooperative-open u e = let w = both-pass _ _ e in (eqb-true _ _ (w .0), ltb-true _ _ (w .1))
 
+  -- and the other way round
   open-cooperative : (u : Task) → Open u → openCooperative now u ≡ true
   unfolding openCooperative cooperative
   open-cooperative u w = pass-both _ _ (eq-eqb _ _ (w .0)) (lt-ltb _ _ (w .1))

@@ -33,6 +33,7 @@ pub record Stands (run : Run) (row : Task) (t : ℕ) (s : Stand) : Type 0 where
 module _ (play : Play) where
   open Play play using (rows, run, core, allowed)
 
+  -- where the tasks stand before tick t
   abbrev pub now : ℕ → Task → Stand
   now t = standAt rows run t
 
@@ -44,6 +45,7 @@ module _ (play : Play) where
   abbrev pub next : ℕ → Task → Stand
   next t row = ranOn row (run .uses row (now t row .done) (now t row .at)) (now t row)
 
+  -- it is the one that the rule chooses
   pub running-chosen : (t : ℕ) {s : Task} → running t ≡ some s → Chosen rows run t (now t) (some s)
   running-chosen t e = subst (λ (o : Option Task). Chosen rows run t (now t) o) e (chosen rows run t (now t))
 
@@ -126,6 +128,7 @@ module _ (play : Play) where
             rested = λ h. g .rested (omega arith);
           }
 
+  -- so it holds before every tick
   pub stands : (t : ℕ) (row : Task) → row ∈ rows → Stands run row t (now t row)
   unfolding standAt released
   stands zero row m =

@@ -2,7 +2,7 @@
 -- takes from none, and it says which jobs and parts have ended. From what a tick does.
 use Prim.Native.Nat.{ℕ, suc, _+_, _*_, _≤_, _<_}
 use mathlib.Core.Path.{_≡_, refl, ap}
-use mathlib.Core.Option.{some, none}
+use mathlib.Core.Option.{some}
 use mathlib.Core.Logic.{_⊎_, inl, inr, ⊎-elim}
 use native.Mathlib.Omega.{arith}
 use native.Mathlib.Nat.{suc-mul, mul-le-mul-right, eq-or-lt-of-le}
@@ -16,6 +16,7 @@ use Rattle.machine.proofs.Play.{Play}
 use Rattle.machine.proofs.Releases.{uses-within}
 use Rattle.machine.proofs.Ticks.{now, next, running, tick, ran-on, stands}
 
+-- the jobs that are done, the parts before the one that the task is at, and the ticks of that one
 unfoldable pub worked : Task → Stand → ℕ
 worked row s = s .done * cost row + partsBefore row (s .at) + s .ran
 
@@ -48,6 +49,7 @@ module _ (play : Play) where
         suc-mul (now play t row .done) (cost row),
       ))
 
+  -- so the work of the task that runs rises
   pub rises : (t : ℕ) (row : Task) → row ∈ rows → running play t ≡ some row
       → worked row (now play t row) < worked row (now play (suc t) row)
   rises t row m e =
@@ -63,19 +65,22 @@ module _ (play : Play) where
   keeps-work t row m =
       tick play t row m (λ s. worked row (now play t row) ≤ worked row s) (λ e. omega (arith, climbs t row m)) (λ n. omega arith)
 
+  -- at a later tick there is no less
   pub work-grows : (row : Task) → row ∈ rows → (t u : ℕ) → t ≤ u → worked row (now play t row) ≤ worked row (now play u row)
   work-grows row m = grows (λ t. worked row (now play t row)) (λ t. keeps-work t row m)
 
   -- what the work of a task before tick t says of where it stands
   module _ (t : ℕ) (row : Task) (m : row ∈ rows) where
+    -- where it stands
     abbrev here : Stand
     here = now play t row
 
-    -- the job that it is at counts as begun, and not as done
+    -- the jobs up to the one that it is at have their work done
     job-begun : (q : ℕ) → q ≤ here .done → q * cost row ≤ worked row here
     unfolding worked
     job-begun q h = omega (arith, mul-le-mul-right (cost row) h)
 
+    -- and the one that it is at has not
     job-short : (q : ℕ) → here .done < q → worked row here < q * cost row
     unfolding worked
     job-short q h =
@@ -89,21 +94,24 @@ module _ (play : Play) where
 
     -- at job q the work tells the part
     module _ (q r : ℕ) (e : here .done ≡ q) where
+      -- the jobs before it
       same-jobs : here .done * cost row ≡ q * cost row
       same-jobs = ap (λ (n : ℕ). n * cost row) e
 
+      -- the work up to the end of part r is done: the task is past it
       part-done : q * cost row + partsBefore row (suc r) ≤ worked row here → r < here .at
       unfolding worked
       part-done h =
           not-below (suc r) (here .at)
           (λ lt. omega (arith, same-jobs, in-part t row m, parts-mono row (suc (here .at)) (suc r) lt))
 
+      -- work within part r: the part has run a tick
       part-begun : q * cost row + partsBefore row r < worked row here → worked row here < q * cost row + partsBefore row (suc r)
           → 0 < here .ran
       unfolding worked
       part-begun h k =
           not-below 1 (here .ran)
-          (λ none.
+          (λ shut.
           ⊎-elim (λ lt. omega (arith, same-jobs, parts-mono row (suc r) (here .at) lt))
           (λ le. omega (arith, same-jobs, parts-mono row (here .at) r le)) (either r (here .at)))
 
@@ -146,6 +154,7 @@ module _ (play : Play) where
     pub waiting-work : here .done < released run row t → worked row here < released run row t * cost row
     waiting-work h = job-short (released run row t) h
 
+    -- in all, no more than the work of the released jobs
     pub at-most-released : worked row here ≤ released run row t * cost row
     at-most-released =
         ⊎-elim (λ lt. omega (arith, waiting-work lt)) (λ le. omega (arith, quiet-work le)) (either (here .done) (released run row t))

@@ -8,26 +8,32 @@ use Rattle.model.specs.Bounds as bounds
 use Rattle.model.specs.Machine as machine
 use Rattle.model.specs.MachineSample.{periodic, idOf, ranIn}
 
+-- who is pending, who is open
 tests : ℕ
 unfolding machine.released machine.pending machine.pendingPreemptive machine.pendingCooperative machine.openCooperative
 tests = 0
 
+-- who runs, and what a tick does
 steps : ℕ
 unfolding tests machine._ifNone_ machine.runs machine.isTask machine.ranOn machine.step machine.standAt bounds.highest bounds.above
 steps = 0
 
+-- the ticks of a sample's run
 unfoldable pub machine-ticks : ℕ
 unfolding steps bounds.preemptive bounds.cooperative part parts periodic idOf ranIn
 machine-ticks = 0
 
+-- the terms of the equations
 sides : ℕ
 unfolding bounds.blocking bounds.higher bounds.lower bounds.before bounds.through bounds.up bounds.down
 sides = 0
 
+-- their least solutions
 searches : ℕ
 unfolding sides scan least keep total sum largest part partsBefore cost bounds.limit bounds.preemptive bounds.cooperative
 searches = 0
 
+-- the start and the end of a part
 unfoldable pub part-ends : ℕ
 unfolding searches bounds.start bounds.endFrom bounds.finish
 part-ends = 0

@@ -48,6 +48,7 @@ module _ (first : Task → ℕ) (task : Task) where
       (λ le. omega (arith, mul-le-mul-right {m = periods u} {n = periods t} (task .period) (omega arith))) in
       omega (arith, mul-le-mul-right (task .period) more, suc-mul (periods t) (task .period))
 
+-- every periodic run of a good core is allowed
 pub periodic-allowed : PeriodicAllowed
 unfolding PeriodicAllowed periodic
 periodic-allowed rows core first =

@@ -13,12 +13,15 @@ use Rattle.model.specs.MachineSample.{ranIn, together}
 abbrev pub e1 : ℕ → Task
 e1 kind = row 1 kind 2 3 3 (1 ∷ [])
 
+-- the lower row
 abbrev pub e2 : Task
 e2 = row 2 1 1 20 20 (5 ∷ [])
 
+-- the lower row under the higher one
 abbrev pub under : ℕ → List Task
 under kind = e1 kind ∷ e2 ∷ []
 
+-- part 0 of the first job of the lower row
 pub record Begun : Type 0 where
   -- under a cooperative row the part runs on from tick 1 to its end before tick 6, past the release at tick 3
   pub runs-on : ranIn (under 1) together 7 ≡ 1 ∷ 2 ∷ 2 ∷ 2 ∷ 2 ∷ 2 ∷ 1 ∷ []

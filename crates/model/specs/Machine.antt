@@ -43,12 +43,15 @@ ranOn task n s =
 unfoldable pub openCooperative : (Task → Stand) → Task → Bool
 openCooperative now task = cooperative task && ltb 0 (now task .ran)
 
+-- a preemptive task with a job to run
 unfoldable pub pendingPreemptive : Run → ℕ → (Task → Stand) → Task → Bool
 pendingPreemptive run t now task = preemptive task && pending run t now task
 
+-- a cooperative task with a job to run
 unfoldable pub pendingCooperative : Run → ℕ → (Task → Stand) → Task → Bool
 pendingCooperative run t now task = cooperative task && pending run t now task
 
+-- "if none"
 unfoldable pub _ifNone_ : Option Task → Option Task → Option Task
 some task ifNone other = some task
 none ifNone other = other

@@ -1,4 +1,4 @@
--- Some ticks of the machine, so that a reader sees it move: which task runs in each, and where the tasks stand then.
+-- Some ticks of the machine on Set A, so that a reader sees it move: which task runs in each, and where a task stands then.
 use Prim.Native.Nat.{ℕ, zero, suc, _+_, _-_, _*_, _/_}
 use mathlib.Core.Path.{_≡_}
 use mathlib.Core.List.{List, [], _∷_, _++_}
@@ -40,8 +40,9 @@ together = periodic (λ task. 0)
 abbrev pub second-later : Run
 second-later = periodic (λ task. pick (eqb (task .id) 2) 2 0)
 
+-- what a reader can follow with a pencil
 pub record MachineSample : Type 0 where
-  -- Set A: task 1 cuts in at tick 5, while task 3's first part is open; at tick 14 nothing is left to run
+  -- task 1 cuts in at tick 5, while task 3's first part is open; at tick 14 nothing is left to run
   pub all-together : ranIn (setA 20) together 16 ≡ 1 ∷ 2 ∷ 2 ∷ 2 ∷ 3 ∷ 1 ∷ 3 ∷ 3 ∷ 3 ∷ 3 ∷ 1 ∷ 2 ∷ 2 ∷ 2 ∷ 0 ∷ 1 ∷ []
   -- task 3's first part: before tick 6 it has run one of its two ticks, before tick 7 it has ended, at its bound
   pub part-open : standAt (setA 20) together 6 (a3 20) ≡ record { done = 0; at = 0; ran = 1 }
