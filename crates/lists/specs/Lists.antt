@@ -1,5 +1,5 @@
 -- Small words on lists and tests that the definitions use.
-use Prim.Native.Nat.{ℕ, _+_, _-_, max}
+use Prim.Native.Nat.{ℕ, zero, suc, _+_, _-_, max}
 use mathlib.Core.Bool.{Bool, true, false}
 use mathlib.Core.List.{List, [], _∷_, _++_, List·Memᴰ}
 use lib.ListN.{length, replicate}
@@ -41,3 +41,8 @@ sum (x ∷ xs) = x + sum xs
 unfoldable pub largest : List ℕ → ℕ
 largest [] = 0
 largest (x ∷ xs) = max x (largest xs)
+
+-- h 0, h 1, .. h (n - 1)
+unfoldable pub listed : {A : Type 0} → (ℕ → A) → ℕ → List A
+listed h zero = []
+listed h (suc n) = h 0 ∷ listed (λ i. h (suc i)) n

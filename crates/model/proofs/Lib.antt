@@ -9,6 +9,7 @@ pub mod Demand
 pub mod Exists
 pub mod Responses
 pub mod Verdict
+pub mod Windows
 pub mod Samples
 pub mod Released
 pub mod Periodic

@@ -4,7 +4,7 @@ use mathlib.Core.Bool.{Bool, true, false, not}
 use mathlib.Core.List.{List, [], _∷_, map}
 use mathlib.Core.Option.{Option, some, none}
 use lib.Dec.{eqb, ltb, leb}
-use Rattle.lists.specs.Lists.{pick, keep, total, largest}
+use Rattle.lists.specs.Lists.{pick, keep, total, largest, listed}
 use Rattle.model.specs.declared.Found.{Found}
 use Rattle.model.specs.declared.Found.the-variants.{At, Nothing}
 use Rattle.model.specs.Least.{least, found, value, maxBelow}
@@ -85,6 +85,10 @@ module _ (rows : List Task) (t : Task) where
   -- the bound of part r: the largest over the jobs (8)
   unfoldable pub bound : ℕ → ℕ
   bound r = maxBelow (response r) jobs
+
+  -- the bounds of all its parts, in order
+  unfoldable pub rowBounds : List ℕ
+  rowBounds = listed bound (parts t)
 
   unfoldable pub meetsDeadline : Bool
   meetsDeadline = leb (bound (parts t - 1)) (t .deadline)

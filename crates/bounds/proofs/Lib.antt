@@ -1,0 +1,4 @@
+pub mod Sides
+pub mod Stand
+pub mod Walk
+pub mod Begun
