@@ -14,7 +14,7 @@ use Rattle.model.specs.Bounds.{cooperative, blocking}
 use Rattle.model.specs.Machine.{Stand}
 use Rattle.model.proofs.Blocking.{blocking-part}
 use Rattle.machine.proofs.Play.{Play}
-use Rattle.machine.proofs.Ticks.{now, running, tick, ran-on, open-uses, only, priorities}
+use Rattle.machine.proofs.Ticks.{now, running, tick, after-tick, open-uses, only, priorities}
 use Rattle.machine.proofs.Worked.{worked, rises, keeps-work}
 use Rattle.machine.proofs.Open.{one-open}
 use Rattle.machine.proofs.Busy.{upward, upward-in, in-upward, Busy, Below, Runs, upper-runs, open-runs-on, busy-runs}
@@ -85,7 +85,7 @@ module _ (play : Play) (row : Task) (m : row ∈ play .rows) where
       left u k =
           tick play e u (k .its-row) (Fits (suc (c .low)) u)
           (λ q.
-          ran-on play u (now play e u) (Fits (suc (c .low)) u) (λ more. runs-on u k (only p q))
+          after-tick play u (now play e u) (Fits (suc (c .low)) u) (λ more. runs-on u k (only p q))
           (λ over more o′. absurd (omega arith)) (λ over all o′. absurd (omega arith)))
           (λ q o′. absurd (q (p ∙ ap some (one-open play e s u (b .its-row) (b .kind) o (k .its-row) (k .kind) o′))))
 

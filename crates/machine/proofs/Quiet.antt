@@ -12,7 +12,7 @@ use Rattle.model.specs.Task.{Task, cost}
 use Rattle.model.specs.Bounds.{blocking}
 use Rattle.model.specs.Machine.{released}
 use Rattle.machine.proofs.Play.{Play}
-use Rattle.machine.proofs.Ticks.{now, tick, ran-on}
+use Rattle.machine.proofs.Ticks.{now, tick, after-tick}
 use Rattle.machine.proofs.Worked.{quiet-work}
 use Rattle.machine.proofs.Busy.{upward, upward-in, Busy}
 use Rattle.machine.proofs.Count.{workUp, count}
@@ -42,7 +42,7 @@ module _ (play : Play) (row : Task) (m : row ∈ play .rows) where
   done-grows t u n =
       tick play t u n (λ s. now play t u .done ≤ s .done)
       (λ e.
-      ran-on play u (now play t u) (λ s. now play t u .done ≤ s .done) (λ lt. omega arith) (λ o lt. omega arith)
+      after-tick play u (now play t u) (λ s. now play t u .done ≤ s .done) (λ lt. omega arith) (λ o lt. omega arith)
       (λ o le. omega arith))
       (λ e. omega arith)
 

@@ -9,7 +9,7 @@ use borrow.Author.Tests.{ltb-true, ltb-false, eqb-true, eqb-false}
 use Rattle.lists.specs.Lists.{pick, _∈_}
 use Rattle.lists.proofs.Tests.{by-test, either, not-below}
 use Rattle.model.specs.Task.{Task, parts, part}
-use Rattle.model.specs.Machine.{Run, Stand, released, ranOn, isTask, runs, step, standAt}
+use Rattle.model.specs.Machine.{Run, Stand, released, afterTick, isTask, runs, step, standAt}
 use Rattle.model.proofs.Rows.{same-row}
 use Rattle.machine.proofs.Runs.{Chosen, cuts-in, goes-on, begins, chosen, chosen-row}
 use Rattle.machine.proofs.Play.{Play, some-part}
@@ -43,7 +43,7 @@ module _ (play : Play) where
 
   -- where a task stands after running in tick t
   abbrev pub next : ℕ → Task → Stand
-  next t row = ranOn row (run .uses row (now t row .done) (now t row .at)) (now t row)
+  next t row = afterTick row (run .uses row (now t row .done) (now t row .at)) (now t row)
 
   -- it is the one that the rule chooses
   pub running-chosen : (t : ℕ) {s : Task} → running t ≡ some s → Chosen rows run t (now t) (some s)
@@ -64,15 +64,15 @@ module _ (play : Play) where
           (λ h. rw h (stays (λ q. eqb-false _ _ h (priorities (only e q)))))
 
   -- a tick of a part: the part goes on, or the next part is due, or the next job
-  pub ran-on : (row : Task) (s : Stand) (P : Stand → Type 0)
+  pub after-tick : (row : Task) (s : Stand) (P : Stand → Type 0)
       → (suc (s .ran) < run .uses row (s .done) (s .at) → P (record { done = s .done; at = s .at; ran = suc (s .ran) }))
       → (run .uses row (s .done) (s .at) ≤ suc (s .ran) → suc (s .at) < parts row
       → P (record { done = s .done; at = suc (s .at); ran = 0 }))
       → (run .uses row (s .done) (s .at) ≤ suc (s .ran) → parts row ≤ suc (s .at)
       → P (record { done = suc (s .done); at = 0; ran = 0 }))
-      → P (ranOn row (run .uses row (s .done) (s .at)) s)
-  unfolding ranOn
-  ran-on row s P on part job =
+      → P (afterTick row (run .uses row (s .done) (s .at)) s)
+  unfolding afterTick
+  after-tick row s P on part job =
       by-test (ltb (suc (s .ran)) (run .uses row (s .done) (s .at))) (λ e. rw e (on (ltb-true _ _ e)))
       (λ e.
       rw e
@@ -99,7 +99,7 @@ module _ (play : Play) where
       moves : running t ≡ some row → Stands run row (suc t) (next t row)
       moves e =
           let h = running-waits t row g e in
-          ran-on row (now t row) (Stands run row (suc t))
+          after-tick row (now t row) (Stands run row (suc t))
           (λ lt. record { fits = g .fits; within = λ w. lt; known = omega arith; rested = λ le. absurd (omega arith) })
           (λ o lt.
           record {

@@ -14,7 +14,7 @@ use Rattle.model.proofs.Released.{grows}
 use Rattle.model.proofs.Parts.{parts-zero, parts-suc, parts-mono, parts-cost, part-pos}
 use Rattle.machine.proofs.Play.{Play}
 use Rattle.machine.proofs.Releases.{uses-within}
-use Rattle.machine.proofs.Ticks.{now, next, running, tick, ran-on, stands}
+use Rattle.machine.proofs.Ticks.{now, next, running, tick, after-tick, stands}
 
 -- the jobs that are done, the parts before the one that the task is at, and the ticks of that one
 unfoldable pub worked : Task → Stand → ℕ
@@ -39,7 +39,7 @@ module _ (play : Play) where
   unfolding worked
   climbs t row m =
       let inside = in-part t row m in
-      ran-on play row (now play t row) (λ s. worked row (now play t row) < worked row s) (λ lt. omega arith)
+      after-tick play row (now play t row) (λ s. worked row (now play t row) < worked row s) (λ lt. omega arith)
       (λ o lt. omega arith)
       (λ o le.
       omega (

@@ -15,7 +15,7 @@ tests = 0
 
 -- who runs, and what a tick does
 steps : ℕ
-unfolding tests machine._ifNone_ machine.runs machine.isTask machine.ranOn machine.step machine.standAt bounds.highest bounds.above
+unfolding tests machine._ifNone_ machine.runs machine.isTask machine.afterTick machine.step machine.standAt bounds.highest bounds.above
 steps = 0
 
 -- the ticks of a sample's run

@@ -15,4 +15,4 @@ pub mod Released
 pub mod Periodic
 pub mod Computed
 pub mod MachineSample
-pub mod Begun
+pub mod BegunSample

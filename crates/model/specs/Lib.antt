@@ -7,4 +7,4 @@ pub mod Verdict
 pub mod Samples
 pub mod Machine
 pub mod MachineSample
-pub mod Begun
+pub mod BegunSample

@@ -22,7 +22,7 @@ abbrev pub under : ℕ → List Task
 under kind = e1 kind ∷ e2 ∷ []
 
 -- part 0 of the first job of the lower row
-pub record Begun : Type 0 where
+pub record BegunSample : Type 0 where
   -- under a cooperative row the part runs on from tick 1 to its end before tick 6, past the release at tick 3
   pub runs-on : ranIn (under 1) together 7 ≡ 1 ∷ 2 ∷ 2 ∷ 2 ∷ 2 ∷ 2 ∷ 1 ∷ []
   pub ends-on : (start (under 1) e2 0 0 ≡ At 1) × (finish (under 1) e2 0 0 ≡ At 6)
