@@ -2,6 +2,7 @@ pub mod Tests
 pub mod Keep
 pub mod Totals
 pub mod Sums
+pub mod Members
 pub mod Listed
 pub mod Maps
 pub mod Places

@@ -7,6 +7,12 @@ pub mod Parts
 pub mod Blocking
 pub mod Demand
 pub mod Exists
+pub mod Responses
 pub mod Verdict
-pub mod Samples
 pub mod Windows
+pub mod Samples
+pub mod Released
+pub mod Periodic
+pub mod Computed
+pub mod MachineSample
+pub mod BegunSample

@@ -5,3 +5,6 @@ pub mod Bounds
 pub mod Ranges
 pub mod Verdict
 pub mod Samples
+pub mod Machine
+pub mod MachineSample
+pub mod BegunSample

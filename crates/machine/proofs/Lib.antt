@@ -1,0 +1,12 @@
+pub mod Play
+pub mod Releases
+pub mod Runs
+pub mod Ticks
+pub mod Worked
+pub mod Open
+pub mod Busy
+pub mod Count
+pub mod Quiet
+pub mod Job
+pub mod Ends
+pub mod NoRunIsLater

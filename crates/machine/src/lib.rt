@@ -1,0 +1,1 @@
+// No code: demand 3, about the machine and the bounds of crate model.

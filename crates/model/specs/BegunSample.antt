@@ -1,0 +1,31 @@
+-- What delays a part that has begun, in the machine and in the equations: a higher preemptive task does, a higher cooperative one
+-- does not. The lower row is cooperative, T 20 C 5; the higher one, T 3 C 1, is of either kind.
+use Prim.Native.Nat.{ℕ}
+use mathlib.Core.Path.{_≡_}
+use mathlib.Core.List.{List, [], _∷_}
+use Rattle.model.specs.declared.Found.the-variants.{At}
+use Rattle.model.specs.Task.{Task}
+use Rattle.model.specs.Bounds.{start, finish}
+use Rattle.model.specs.Samples.{row}
+use Rattle.model.specs.MachineSample.{ranIn, together}
+
+-- the higher row by its kind, 0 preemptive or 1 cooperative
+abbrev pub e1 : ℕ → Task
+e1 kind = row 1 kind 2 3 3 (1 ∷ [])
+
+-- the lower row
+abbrev pub e2 : Task
+e2 = row 2 1 1 20 20 (5 ∷ [])
+
+-- the lower row under the higher one
+abbrev pub under : ℕ → List Task
+under kind = e1 kind ∷ e2 ∷ []
+
+-- part 0 of the first job of the lower row
+pub record BegunSample : Type 0 where
+  -- under a cooperative row the part runs on from tick 1 to its end before tick 6, past the release at tick 3
+  pub runs-on : ranIn (under 1) together 7 ≡ 1 ∷ 2 ∷ 2 ∷ 2 ∷ 2 ∷ 2 ∷ 1 ∷ []
+  pub ends-on : (start (under 1) e2 0 0 ≡ At 1) × (finish (under 1) e2 0 0 ≡ At 6)
+  -- under a preemptive row it stands still in ticks 3 and 6, and ends before tick 8
+  pub stops : ranIn (under 0) together 9 ≡ 1 ∷ 2 ∷ 2 ∷ 1 ∷ 2 ∷ 2 ∷ 1 ∷ 2 ∷ 0 ∷ []
+  pub ends-late : (start (under 0) e2 0 0 ≡ At 1) × (finish (under 0) e2 0 0 ≡ At 8)
