@@ -74,9 +74,9 @@ stored-file s ts e = rw (tasks-stored ts) (sym e)
 pub read-is-written : ReadIsWritten
 read-is-written s bs l same e out r out′ w room =
     let read = good-tasks s (sym (ap (λ (x : Loaded). x .verdict) same) ∙ e) in
-    let file = file-back s bs (read .tasks) (read .next) (read .same) in
+    let file = file-back s (read .tasks) (read .next) (read .same) in
     let table : l .table ≡ stored (read .tasks) = ap (λ (x : Loaded). x .table) (same ∙ read-tasks s (read .tasks) (read .next) (read .same)) in
-    written (read .tasks) (stored-file s (read .tasks) (file .bytes)) (file .good) (rw table at w)
+    written (read .tasks) (stored-file s (read .tasks) (file .bytes bs)) (file .good) (rw table at w)
   where
     written : (ts : List Task) → fileOf (stored ts) ≡ s → GoodTasks ts → Wrote (stored ts) out r out′
         → (r ≡ record { verdict = Good; count = length s }) × (out′ ≡ s ++ drop (length s) out)

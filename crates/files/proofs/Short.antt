@@ -45,5 +45,5 @@ file-short ts g =
 pub good-file-is-short : GoodFileIsShort
 good-file-is-short s bs e =
     let read = good-tasks s e in
-    let file = file-back s bs (read .tasks) (read .next) (read .same) in
-    omega (arith, ap length (file .bytes), file-short (read .tasks) (file .good))
+    let file = file-back s (read .tasks) (read .next) (read .same) in
+    omega (arith, ap length (file .bytes bs), file-short (read .tasks) (file .good))

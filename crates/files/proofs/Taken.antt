@@ -1,21 +1,22 @@
--- Numbers that were read are what they may be. Assumes nothing.
-use Prim.Native.Nat.{ℕ, suc, _+_, _≤_}
+-- Numbers that were read are what they may be, and stand in the file in their shortest form. Assumes nothing.
+use Prim.Native.Nat.{ℕ, _+_}
 use native.Mathlib.Omega.{arith}
 use mathlib.Core.Path.{_≡_, refl, sym, ap, _∙_}
 use mathlib.Core.Bool.{Bool, true, false}
 use mathlib.Core.List.{List, [], _∷_, _++_, append-assoc, append-nil}
-use lib.ListN.{length}
-use lib.Dec.{eqb→eq}
+use lib.ListN.{length, drop}
 use Rattle.lists.proofs.Tests.{by-test}
-use Rattle.numbers.specs.Numbers.{numberAt}
+use Rattle.numbers.specs.Numbers.{Bytes, numberAt, encode, encodeAll}
 use Rattle.numbers.specs.declared.Number.{Number}
 use Rattle.numbers.specs.declared.Number.the-variants as N
-use Rattle.table.specs.declared.Row.{Row}
+use Rattle.numbers.proofs.RoundTrip.{stands}
 use Rattle.table.specs.declared.Verdict.{Verdict}
 use Rattle.table.specs.Verdicts.{codeOf, good}
-use Rattle.table.specs.Fields.{Wanted, head, rowFrom, judge, fieldsOf}
+use Rattle.table.specs.Fields.{Wanted, head, rowFrom, judge}
+use Rattle.table.proofs.Codes.{good-code}
 use Rattle.table.proofs.Fine.{Fine, good-fine, AllFine}
 use Rattle.table.proofs.Heads.{GoodHead, good-head}
+use Rattle.table.proofs.Seven.{seven}
 use Rattle.files.specs.Reading.{Step, stop, go, _then_, unless, asked, fieldAt, fieldsAt}
 
 -- a step that went on did not stop
@@ -29,10 +30,10 @@ pub record Passed {A : Type 0} (v : Verdict) (a : A) (m : ℕ) (b : A) (n : ℕ)
   pub place : m ≡ n
 
 pub passed : {A : Type 0} (v : Verdict) (a : A) (m : ℕ) (b : A) (n : ℕ) → unless v a m ≡ go b n → Passed v a m b n
-unfolding unless good
+unfolding unless
 passed v a m b n e =
     by-test (good v)
-    (λ t. let f : go a m ≡ go b n = rw t at e in record { fine = eqb→eq (codeOf v) 0 (rw t tt); same = cc; place = cc })
+    (λ t. let f : go a m ≡ go b n = rw t at e in record { fine = good-code v t; same = cc; place = cc })
     (λ t. let f : stop v ≡ go b n = rw t at e in stopped-not (stop v) refl f)
 
 -- what was read first, and what was read then
@@ -47,10 +48,18 @@ unfolding _then_
 then-read (stop v) f b n e = stopped-not (stop v) refl e
 then-read (go a m) f b n e = record { what = a; place = m; first = refl; rest = e }
 
+-- from one place to the next stand these bytes
+abbrev pub Between : List ℕ → ℕ → List ℕ → ℕ → Type 0
+Between s at bytes next = drop at s ≡ bytes ++ drop next s
+
+-- and behind them others
+pub joined : (s : List ℕ) (at m n : ℕ) (a b : List ℕ) → Between s at a m → Between s m b n → Between s at (a ++ b) n
+joined s at m n a b e f = e ∙ ap (_++_ a) f ∙ sym (append-assoc a b (drop n s))
+
 -- the number that was read stands there, and is what it may be
 pub record Read (w : Wanted) (s : List ℕ) (at v n : ℕ) : Type 0 where
-  pub number : numberAt s at ≡ N.Got v n
   pub fine : Fine w v
+  pub bytes : Bytes s → Between s at (encode v) n
 
 pub field-read : (w : Wanted) (s : List ℕ) (at v n : ℕ) → fieldAt w s at ≡ go v n → Read w s at v n
 unfolding fieldAt asked
@@ -60,56 +69,46 @@ field-read w s at v n e = by (numberAt s at) refl
     by (N.Got u m) q =
         let f : unless (judge w at u) u m ≡ go v n = rw q at e in
         let p = passed (judge w at u) u m v n f in
-        record { number = q ∙ rw (p .same, p .place); fine = rw (p .same) at (good-fine w at u (p .fine)) }
+        rw (← p .same, ← p .place) record { fine = good-fine w at u (p .fine); bytes = λ bs. stands s at u m bs q .bytes }
     by N.EndsEarly q = let f : _≡_ {A = Step ℕ} (stop _) (go v n) = rw q at e in stopped-not _ refl f
     by N.Malformed q = let f : _≡_ {A = Step ℕ} (stop _) (go v n) = rw q at e in stopped-not _ refl f
 
 -- the numbers that were read behind those that were done
-pub record Taken (ws : List Wanted) (done all : List ℕ) : Type 0 where
+pub record Taken (ws : List Wanted) (done s : List ℕ) (at : ℕ) (all : List ℕ) (n : ℕ) : Type 0 where
   pub numbers : List ℕ
   pub whole : all ≡ done ++ numbers
   pub fine : AllFine ws numbers
+  pub bytes : Bytes s → Between s at (encodeAll numbers) n
 
-pub taken : (ws : List Wanted) (done s : List ℕ) (at : ℕ) (all : List ℕ) (n : ℕ) → fieldsAt ws done s at ≡ go all n → Taken ws done all
-unfolding fieldsAt AllFine
-taken [] done s at all n e = let same : done ≡ all = cc in record { numbers = []; whole = sym same ∙ sym (append-nil done); fine = tt }
+pub taken : (ws : List Wanted) (done s : List ℕ) (at : ℕ) (all : List ℕ) (n : ℕ) → fieldsAt ws done s at ≡ go all n
+    → Taken ws done s at all n
+unfolding fieldsAt AllFine encodeAll
+taken [] done s at all n e =
+    let same : done ≡ all = cc in
+    let here : at ≡ n = cc in
+    record { numbers = []; whole = sym same ∙ sym (append-nil done); fine = tt; bytes = λ bs. ap (λ (k : ℕ). drop k s) here }
 taken (w ∷ ws) done s at all n e =
     let r = then-read (fieldAt w s at) (λ v m. fieldsAt ws (done ++ (v ∷ [])) s m) all n e in
-    let more = taken ws (done ++ (r .what ∷ [])) s (r .place) all n (r .rest) in
-    record {
-      numbers = r .what ∷ more .numbers;
-      whole = more .whole ∙ append-assoc done (r .what ∷ []) (more .numbers);
-      fine = (field-read w s at (r .what) (r .place) (r .first) .fine, more .fine);
-    }
+    more (r .what) (r .place) (field-read w s at (r .what) (r .place) (r .first)) (taken ws (done ++ (r .what ∷ [])) s (r .place) all n (r .rest))
+  where
+    more : (v m : ℕ) → Read w s at v m → Taken ws (done ++ (v ∷ [])) s m all n → Taken (w ∷ ws) done s at all n
+    more v m f l = record {
+        numbers = v ∷ l .numbers;
+        whole = l .whole ∙ append-assoc done (v ∷ []) (l .numbers);
+        fine = (f .fine, l .fine);
+        bytes = λ bs. joined s at m n (encode v) (encodeAll (l .numbers)) (f .bytes bs) (l .bytes bs) }
 
 -- from nothing done: all of them
-pub taken-fine : (ws : List Wanted) (s : List ℕ) (at : ℕ) (all : List ℕ) (n : ℕ) → fieldsAt ws [] s at ≡ go all n → AllFine ws all
-taken-fine ws s at all n e = let r = taken ws [] s at all n e in rw (r .whole) (r .fine)
+pub record TakenAll (ws : List Wanted) (s : List ℕ) (at : ℕ) (all : List ℕ) (n : ℕ) : Type 0 where
+  pub fine : AllFine ws all
+  pub bytes : Bytes s → Between s at (encodeAll all) n
 
--- as many as are wanted
-pub fine-length : (ws : List Wanted) (ns : List ℕ) → AllFine ws ns → length ns ≡ length ws
-unfolding AllFine
-fine-length [] [] f = refl
-fine-length [] (n ∷ ns) f = absurd f
-fine-length (w ∷ ws) [] f = absurd f
-fine-length (w ∷ ws) (n ∷ ns) f = ap suc (fine-length ws ns (f .1))
-
--- seven numbers are the fields of their row
-pub fields-of-row : (ns : List ℕ) → length ns ≡ 7 → fieldsOf (rowFrom ns) ≡ ns
-fields-of-row (a ∷ b ∷ c ∷ d ∷ e ∷ f ∷ g ∷ []) l = refl
-fields-of-row [] l = absurd (omega arith)
-fields-of-row (a ∷ []) l = absurd (omega arith)
-fields-of-row (a ∷ b ∷ []) l = absurd (omega arith)
-fields-of-row (a ∷ b ∷ c ∷ []) l = absurd (omega arith)
-fields-of-row (a ∷ b ∷ c ∷ d ∷ []) l = absurd (omega arith)
-fields-of-row (a ∷ b ∷ c ∷ d ∷ e ∷ []) l = absurd (omega arith)
-fields-of-row (a ∷ b ∷ c ∷ d ∷ e ∷ f ∷ []) l = absurd (omega arith)
-fields-of-row (a ∷ b ∷ c ∷ d ∷ e ∷ f ∷ g ∷ h ∷ ns) l = absurd (omega arith)
+pub taken-all : (ws : List Wanted) (s : List ℕ) (at : ℕ) (all : List ℕ) (n : ℕ) → fieldsAt ws [] s at ≡ go all n → TakenAll ws s at all n
+taken-all ws s at all n e = let r = taken ws [] s at all n e in rw (r .whole) record { fine = r .fine; bytes = r .bytes }
 
 -- a row's fields that were read are in their ranges
 pub head-read : (used : ℕ) (s : List ℕ) (at : ℕ) (fields : List ℕ) (n : ℕ) → fieldsAt (head used) [] s at ≡ go fields n
     → GoodHead used (rowFrom fields)
-unfolding head
 head-read used s at fields n e =
-    let f = taken-fine (head used) s at fields n e in
-    good-head used (rowFrom fields) (rw (fields-of-row fields (fine-length (head used) fields f)) f)
+    let f = taken-all (head used) s at fields n e .fine in
+    good-head used (rowFrom fields) (rw (seven used fields f) f)

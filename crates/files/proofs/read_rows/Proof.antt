@@ -15,13 +15,14 @@ use Rattle.table.specs.declared.Verdict.{Verdict}
 use Rattle.table.specs.Fields.{head, time, rowFrom}
 use Rattle.table.specs.Memory.{rowOf, taskOf, allTimes, zeroRow}
 use Rattle.table.proofs.Heads.{GoodHead}
+use Rattle.table.proofs.Seven.{all-length}
 use Rattle.table.proofs.Stored.{all-times-snoc}
 use Rattle.files.specs.declared.Next.the-variants.{At}
 use Rattle.files.specs.Reading.{Step, stop, go, fieldsAt, rowAt, rowsAt}
 use Rattle.files.specs.Promises.{asBody}
 use Rattle.files.proofs.Steps.{GotHead, got-head, refused-head, filled-at, filled-refused}
 use Rattle.files.proofs.Steps.{row-more, row-fields-stop, row-times-stop, rows-more, rows-stop, rows-none}
-use Rattle.files.proofs.Taken.{taken-fine, fine-length, head-read}
+use Rattle.files.proofs.Taken.{taken-all, head-read}
 use Rattle.files.proofs.read_rows.Statement.{statement}
 use Rattle.files.proofs.read_rows.Tie as tie
 
@@ -71,7 +72,7 @@ module _ {s : List ℕ} {at n : ℕ} {rows : List Row} {times : List ℕ} {p use
 
       module _ (ts : List ℕ) (m : ℕ) (read : fieldsAt (replicate (row .parts) time) [] s q ≡ go ts m) where
         full : length ts ≡ row .parts
-        full = fine-length _ ts (taken-fine (replicate (row .parts) time) s q ts m read) ∙ length-replicate (row .parts) time
+        full = all-length _ ts (taken-all (replicate (row .parts) time) s q ts m read .fine) ∙ length-replicate (row .parts) time
 
         rows-turn : set rows i row ≡ padTo zeroRow 64 (map rowOf (l .done ++ (taskOf row ts ∷ [])))
         rows-turn =
