@@ -93,10 +93,11 @@ taken (w ∷ ws) done s at all n e =
   where
     more : (v m : ℕ) → Read w s at v m → Taken ws (done ++ (v ∷ [])) s m all n → Taken (w ∷ ws) done s at all n
     more v m f l = record {
-        numbers = v ∷ l .numbers;
-        whole = l .whole ∙ append-assoc done (v ∷ []) (l .numbers);
-        fine = (f .fine, l .fine);
-        bytes = λ bs. joined s at m n (encode v) (encodeAll (l .numbers)) (f .bytes bs) (l .bytes bs) }
+      numbers = v ∷ l .numbers;
+      whole = l .whole ∙ append-assoc done (v ∷ []) (l .numbers);
+      fine = (f .fine, l .fine);
+      bytes = λ bs. joined s at m n (encode v) (encodeAll (l .numbers)) (f .bytes bs) (l .bytes bs);
+    }
 
 -- from nothing done: all of them
 pub record TakenAll (ws : List Wanted) (s : List ℕ) (at : ℕ) (all : List ℕ) (n : ℕ) : Type 0 where

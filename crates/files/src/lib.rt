@@ -80,7 +80,8 @@ fn read_fields(
     out: &mut [u32],
 ) -> Next
     requires { ⌜ Ranges (length (now out)) (now low) (now high) (now left) ⌝ }
-    ensures { λ r. ⌜ Filled (fieldsAt (wanted (now (low .entry)) (now (high .entry)) (now (left .entry))) [] (now (bytes .entry)) at) r (now (out .exit)) ⌝ }
+    ensures { λ r. ⌜ Filled (fieldsAt (wanted (now (low .entry)) (now (high .entry)) (now (left .entry))) [] (now (bytes .entry)) at)
+        r (now (out .exit)) ⌝ }
 {
     let mut p = at;
     let mut i = 0;

@@ -17,7 +17,8 @@ use Rattle.files.proofs.put_row.Tie as tie
 back : List ℕ → ℕ → List ℕ → List ℕ
 back out p part = take p out ++ (part ++ drop (length out - p) (drop p out))
 
-module _ (row : Row) (fields times out : List ℕ) (p : ℕ) (own : fields ≡ fieldsOf row) (room : p + (7 + length times) ≤ length out) (first second : List ℕ) where
+module _ (row : Row) (fields times out : List ℕ) (p : ℕ) (own : fields ≡ fieldsOf row) (room : p + (7 + length times) ≤ length out)
+    (first second : List ℕ) where
   both-put : first ≡ sets (take (length out - p) (drop p out)) 0 fields
       → second ≡ sets (take (length (back out p first) - (p + 7)) (drop (p + 7) (back out p first))) 0 times
       → PutAt (fieldsOf row ++ times) p out (p + 7 + length times) (back (back out p first) (p + 7) second)

@@ -59,7 +59,8 @@ returns-2 c =
     let c2 = c1 .before in
     let c3 = c2 .before in
     let c4 = c3 .before in
-    λ ts lies. c .refuse2 .ensures ∙ clashes _ _ _ ts lies _ _ (c3 .clash-of .ensures) (c2 .code-of .ensures) (c4 .if1 .left) (c1 .if2 .taken)
+    λ ts lies. c .refuse2 .ensures ∙ clashes _ _ _ ts lies _ _ (c3 .clash-of .ensures) (c2 .code-of .ensures) (c4 .if1 .left)
+    (c1 .if2 .taken)
 
 returns-3 : tie.Need-returns-3
 returns-3 c =

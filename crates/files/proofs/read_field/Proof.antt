@@ -38,7 +38,8 @@ returns c =
     let c4 = c2 .before .before in
     let c6 = c4 .before .before in
     let c8 = c6 .before .before in
-    ap asField (sym (unless-fault (c2 .number-fault .ensures) (c1 .code-of .ensures) _ _ (c .if1 .taken)) ∙ read _ (now (c8 .args .bytes)) (c8 .args .at) _ (sym (c4 .value .given .1) ∙ c6 .number-at .ensures))
+    ap asField (sym (unless-fault (c2 .number-fault .ensures) (c1 .code-of .ensures) _ _ (c .if1 .taken))
+    ∙ read _ (now (c8 .args .bytes)) (c8 .args .at) _ (sym (c4 .value .given .1) ∙ c6 .number-at .ensures))
 
 enum-told : tie.Need-enum-told
 enum-told c = search needs
@@ -54,7 +55,8 @@ returns-2 c =
     let c4 = c2 .before .before in
     let c6 = c4 .before .before in
     let c8 = c6 .before .before in
-    ap asField (sym (unless-good (c2 .number-fault .ensures) (c1 .code-of .ensures) _ _ (c .if1 .left)) ∙ read _ (now (c8 .args .bytes)) (c8 .args .at) _ (sym (c4 .value .given .1) ∙ c6 .number-at .ensures))
+    ap asField (sym (unless-good (c2 .number-fault .ensures) (c1 .code-of .ensures) _ _ (c .if1 .left))
+    ∙ read _ (now (c8 .args .bytes)) (c8 .args .at) _ (sym (c4 .value .given .1) ∙ c6 .number-at .ensures))
 
 returns-3 : tie.Need-returns-3
 unfolding asked

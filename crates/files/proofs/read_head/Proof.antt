@@ -74,9 +74,11 @@ returns-2 : tie.Need-returns-2
 unfolding lows highs
 returns-2 c =
     let c2 = c .before .before in
+    let c2 = c2 in
     let c5 = c2 .before .before .before in
     let c10 = c5 .before .before .before .before .before in
-    ap (λ (row : Row). H.Got row (c .before .before .next .given .0 .0)) (c .row-of .ensures) ∙ ends _ _ _ _ (c10 .left-after .ensures) _ _ (c5 .read-fields .ensures) _ (c2 .next .given .1)
+    ap (λ (row : Row). H.Got row (c2 .next .given .0 .0)) (c .row-of .ensures)
+    ∙ ends _ _ _ _ (c10 .left-after .ensures) _ _ (c5 .read-fields .ensures) _ (c2 .next .given .1)
 
 pub read-head-spec : {M : Type 1} → statement M
 read-head-spec =

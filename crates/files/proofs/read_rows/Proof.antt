@@ -1,4 +1,5 @@
--- `files::read_rows` meets its contract. The invariant: some rows are done and lie in memory as they should, the others are still to be read. Assumes nothing.
+-- `files::read_rows` meets its contract. The invariant: some rows are done and lie in memory as they should, the others are
+-- still to be read. Assumes nothing.
 use Prim.Native.Nat.{ℕ, _+_, _-_, _≤_, _<_}
 use native.Mathlib.Nat.{sub-zero}
 use native.Mathlib.Omega.{arith}
@@ -77,7 +78,9 @@ module _ {s : List ℕ} {at n : ℕ} {rows : List Row} {times : List ℕ} {p use
         rows-turn : set rows i row ≡ padTo zeroRow 64 (map rowOf (l .done ++ (taskOf row ts ∷ [])))
         rows-turn =
             let at-end : i ≡ length (map rowOf (l .done)) = l .count ∙ sym (length-map (l .done) rowOf) in
-            rw (l .rows-are, at-end, set-pad zeroRow 64 (map rowOf (l .done)) row (omega arith), map-append rowOf (l .done) (taskOf row ts ∷ []), full)
+            let next : set (padTo zeroRow 64 (map rowOf (l .done))) (length (map rowOf (l .done))) row ≡ padTo zeroRow 64 (map rowOf (l .done) ++ (row ∷ []))
+            = set-pad zeroRow 64 (map rowOf (l .done)) row (omega arith) in
+            rw (l .rows-are, at-end, next, map-append rowOf (l .done) (taskOf row ts ∷ []), full)
 
         times-turn : take used times ++ (ts ++ drop (used + row .parts - used) (drop used times))
             ≡ padTo 0 1024 (allTimes (l .done ++ (taskOf row ts ∷ [])))
@@ -85,7 +88,8 @@ module _ {s : List ℕ} {at n : ℕ} {rows : List Row} {times : List ℕ} {p use
             let lent : used + row .parts - used ≡ length ts = omega (arith, full) in
             rw (lent, l .times-are, l .total, splice-pad 0 1024 (allTimes (l .done)) ts, all-times-snoc)
 
-        turn : Loading s at n (set rows i row) (take used times ++ (ts ++ drop (used + row .parts - used) (drop used times))) m (used + row .parts) (i + 1)
+        turn : Loading s at n (set rows i row) (take used times ++ (ts ++ drop (used + row .parts - used) (drop used times))) m
+            (used + row .parts) (i + 1)
         turn = record {
           done = l .done ++ (taskOf row ts ∷ []);
           upto = omega arith;
@@ -106,16 +110,26 @@ abbrev μ-loop : tie.MeasureT-loop
 μ-loop bytes at n rows₀ times₀ p₀ used₀ i₀ rows times p used i = n - i
 
 -- the fields of the row that is read now
-got-row : (c : tie.After-row Inv-loop μ-loop)
-    → GotHead (fieldsAt (head (c .before .before .before .before .loop .used)) [] (c .before .before .before .before .before .before .before .args .bytes .now) (c .before .before .before .before .loop .p)) (c .row .given .0 .0) (c .row .given .0 .1 .0)
-got-row c = got-head _ _ _ (sym (c .row .given .1) ∙ c .before .before .read-head .ensures)
+got-row : (c : tie.After-row Inv-loop μ-loop) → let l = c .before .before .before .before in
+    GotHead (fieldsAt (head (l .loop .used)) [] (l .before .before .before .args .bytes .now) (l .loop .p)) (c .row .given .0 .0) (c .row .given .0 .1 .0)
+got-row c =
+    let c2 = c .before .before in
+    got-head _ _ _ (sym (c .row .given .1) ∙ c2 .read-head .ensures)
 
 row-of-head : (c : tie.After-row Inv-loop μ-loop) → GoodHead (c .before .before .before .before .loop .used) (c .row .given .0 .0)
-row-of-head c = good-row (c .before .before .before .before .loop .inv) (c .before .before .before .before .before .before .before .pre) (c .before .before .before .loop-test .taken) (got-row c)
+row-of-head c =
+    let c3 = c .before .before .before in
+    let c4 = c3 .before in
+    let c7 = c4 .before .before .before in
+    good-row (c4 .loop .inv) (c7 .pre) (c3 .loop-test .taken) (got-row c)
 
-slot-of : (c : tie.After-row Inv-loop μ-loop) → let used = c .before .before .before .before .loop .used in let parts = c .row .given .0 .0 .parts in
-    length (take (used + parts - used) (drop used (c .before .before .before .before .loop .times))) ≡ parts
-slot-of c = slot (c .before .before .before .before .loop .inv) (c .before .before .before .before .before .before .before .pre) (c .before .before .before .loop-test .taken) (got-row c)
+slot-of : (c : tie.After-row Inv-loop μ-loop) → let l = c .before .before .before .before .loop in let parts = c .row .given .0 .0 .parts in
+    length (take (l .used + parts - l .used) (drop (l .used) (l .times))) ≡ parts
+slot-of c =
+    let c3 = c .before .before .before in
+    let c4 = c3 .before in
+    let c7 = c4 .before .before .before in
+    slot (c4 .loop .inv) (c7 .pre) (c3 .loop-test .taken) (got-row c)
 
 row-of-requires : tie.Need-row-of-requires Inv-loop μ-loop
 row-of-requires c κs = search needs
@@ -123,7 +137,17 @@ row-of-requires c κs = search needs
 loop-holds : tie.Need-loop-holds Inv-loop μ-loop
 unfolding allTimes
 loop-holds c =
-    record { done = []; upto = search needs; count = refl; total = refl; room = search needs; rows-are = rw (c .row-of .ensures); times-are = refl; same = rw sub-zero }
+    record {
+      done = [];
+      upto = search needs;
+      count = refl;
+      total = refl;
+      room = search needs;
+      rows-are = rw
+          (c .row-of .ensures);
+      times-are = refl;
+      same = rw sub-zero;
+    }
 
 read-head-requires : tie.Need-read-head-requires Inv-loop μ-loop
 read-head-requires c κs = search needs
@@ -137,11 +161,13 @@ no-rows-requires c κs = search needs
 returns : tie.Need-returns Inv-loop μ-loop
 returns c =
     let c2 = c .before .before in
+    let c2 = c2 in
     let c4 = c2 .before .before in
     let c5 = c4 .before in
     let c6 = c5 .before in
     let c9 = c6 .before .before .before in
-    c .no-rows .ensures ∙ head-stops (c6 .loop .inv) (c9 .pre) (c5 .loop-test .taken) _ (refused-head _ _ (sym (c2 .v .given .1) ∙ c4 .read-head .ensures))
+    c .no-rows .ensures ∙ head-stops (c6 .loop .inv) (c9 .pre) (c5 .loop-test .taken) _
+    (refused-head _ _ (sym (c2 .v .given .1) ∙ c4 .read-head .ensures))
 
 enum-known-row : tie.Need-enum-known-row Inv-loop μ-loop
 enum-known-row c = search needs
@@ -180,12 +206,14 @@ no-rows-requires-2 c κs = search needs
 returns-2 : tie.Need-returns-2 Inv-loop μ-loop
 returns-2 c =
     let c2 = c .before .before in
+    let c2 = c2 in
     let c5 = c2 .before .before .before in
     let c9 = c5 .before .before .before .before in
     let c12 = c9 .before .before .before in
     let c13 = c12 .before in
     let c16 = c13 .before .before .before in
-    c .no-rows2 .ensures ∙ times-stops (c13 .loop .inv) (c16 .pre) (c12 .loop-test .taken) (got-row (c9)) _ (rw (slot-of (c9)) at (filled-refused _ _ _ (rw (c2 .v2 .given .1) at (c5 .read-times .ensures))))
+    c .no-rows2 .ensures ∙ times-stops (c13 .loop .inv) (c16 .pre) (c12 .loop-test .taken) (got-row (c9)) _
+    (rw (slot-of (c9)) at (filled-refused _ _ _ (rw (c2 .v2 .given .1) at (c5 .read-times .ensures))))
 
 enum-known-q : tie.Need-enum-known-q Inv-loop μ-loop
 enum-known-q c = search needs
@@ -214,7 +242,8 @@ loop-again c =
     let c11 = c8 .before .before .before in
     let c12 = c11 .before in
     let c15 = c12 .before .before .before in
-    turn (c12 .loop .inv) (c15 .pre) (c11 .loop-test .taken) (got-row (c8)) _ _ (rw (slot-of (c8)) at (filled-at _ _ _ (rw (c1 .q .given .1) at (c4 .read-times .ensures))))
+    turn (c12 .loop .inv) (c15 .pre) (c11 .loop-test .taken) (got-row (c8)) _ _
+    (rw (slot-of (c8)) at (filled-at _ _ _ (rw (c1 .q .given .1) at (c4 .read-times .ensures))))
 
 returns-3 : tie.Need-returns-3 Inv-loop μ-loop
 returns-3 c = ends (c .before .loop .inv) (c .loop-test .left)

@@ -42,7 +42,10 @@ same-length : tie.Need-same-length
 same-length c = search needs
 
 returns : tie.Need-returns
-returns c = same-range _ _ _ _ _ (c .before .before .before .before .before .before .before .before .before .pre) (c .before .before .read-fields .ensures)
+returns c =
+    let c2 = c .before .before in
+    let c9 = c2 .before .before .before .before .before .before .before in
+    same-range _ _ _ _ _ (c9 .pre) (c2 .read-fields .ensures)
 
 pub read-times-spec : {M : Type 1} → statement M
 read-times-spec =

@@ -37,15 +37,21 @@ module _ {s : List ℕ} {at v w p l : ℕ} (r : Reading s at v w p l) (some : 0 
   ends h = sym (r .same ∙ ap (after v w p) (groups-end (eqb l 4) l p s some h))
 
   module _ (inside : p < length s) where
-    step : numberAt s at ≡ after v w p (pick (ltb (getD s p 0) 128) (last (eqb l 4) (getD s p 0)) (after (getD s p 0 - 128) 128 1 (groups false (l - 1) (drop (p + 1) s))))
+    -- the bytes after this one
+    rest : Number
+    rest = groups false (l - 1) (drop (p + 1) s)
+
+    step : numberAt s at ≡ after v w p (pick (ltb (getD s p 0) 128) (last (eqb l 4) (getD s p 0)) (after (getD s p 0 - 128) 128 1 rest))
+    unfolding rest
     step = r .same ∙ ap (after v w p) (groups-cons (eqb l 4) l p s some inside)
 
     turn : 128 ≤ getD s p 0 → getD s p 0 < 256 → Reading s at (v + w * (getD s p 0 - 128)) (w * 128) (p + 1) (l - 1)
+    unfolding rest
     turn h l256 = record {
       few = omega (arith, r .few);
       low = omega (arith, r .low, scaled (getD s p 0 - 128) (omega arith));
       unit = let e : 4 - (l - 1) ≡ suc (4 - l) = omega (arith, r .few) in rw (e, pow-suc, r .unit);
-      same = step ∙ rw (le-ltb _ _ h, ne-eqb (l - 1) 4 (omega (arith, r .few))) (after-after v w p (getD s p 0 - 128) 128 1 (groups false (l - 1) (drop (p + 1) s)));
+      same = step ∙ rw (le-ltb _ _ h, ne-eqb (l - 1) 4 (omega (arith, r .few))) (after-after v w p (getD s p 0 - 128) 128 1 rest);
     }
 
     got : getD s p 0 < 128 → 0 < getD s p 0 → Got (v + w * getD s p 0) (p + 1) ≡ numberAt s at
@@ -91,8 +97,10 @@ cast-b c = omega (arith, c .shared-slice-known .given (c .before .before .before
 add-p : tie.Need-add-p Inv-loop μ-loop
 add-p c = search needs
 
-low : (c : tie.Then2 Inv-loop μ-loop) → getD (c .before .before .before .before .before .args .bytes .now) (c .before .before .before .before .loop .p) 0 - 128 < 128
-low c = omega (arith, c .before .shared-slice-known .given (c .before .before .before .before .loop .p))
+low : (c : tie.Then2 Inv-loop μ-loop) → let l = c .before .before .before .before in getD (l .before .args .bytes .now) (l .loop .p) 0 - 128 < 128
+low c =
+    let c4 = c .before .before .before .before in
+    omega (arith, c .before .shared-slice-known .given (c4 .loop .p))
 
 mul-value : tie.Need-mul-value Inv-loop μ-loop
 mul-value c = omega (arith, room (c .before .before .before .before .loop .inv) (search needs) _ (low c))
@@ -110,7 +118,9 @@ loop-less : tie.Need-loop-less Inv-loop μ-loop
 loop-less c = search needs
 
 loop-again : tie.Need-loop-again Inv-loop μ-loop
-loop-again c = turn (c .before .before .before .before .loop .inv) (search needs) (search needs) (c .if2 .taken) (c .before .shared-slice-known .given (c .before .before .before .before .loop .p) .fits)
+loop-again c =
+    let c4 = c .before .before .before .before in
+    turn (c4 .loop .inv) (search needs) (search needs) (c .if2 .taken) (c .before .shared-slice-known .given (c4 .loop .p) .fits)
 
 mul-t15 : tie.Need-mul-t15 Inv-loop μ-loop
 mul-t15 c = omega (arith, room (c .before .before .before .before .before .loop .inv) (search needs) _ (c .before .if2 .left))
@@ -119,13 +129,19 @@ add-t16 : tie.Need-add-t16 Inv-loop μ-loop
 add-t16 c = record { fits = room (c .before .before .before .before .before .loop .inv) (search needs) _ (c .before .if2 .left) }
 
 returns-2 : tie.Need-returns-2 Inv-loop μ-loop
-returns-2 c = got (c .before .before .before .before .before .loop .inv) (search needs) (search needs) (c .before .if2 .left) (c .if3 .taken)
+returns-2 c =
+    let c5 = c .before .before .before .before .before in
+    got (c5 .loop .inv) (search needs) (search needs) (c .before .if2 .left) (c .if3 .taken)
 
 returns-3 : tie.Need-returns-3 Inv-loop μ-loop
-returns-3 c = long (c .before .before .before .before .before .before .loop .inv) (search needs) (search needs) (c .before .if3 .left) (c .if4 .taken)
+returns-3 c =
+    let c6 = c .before .before .before .before .before .before in
+    long (c6 .loop .inv) (search needs) (search needs) (c .before .if3 .left) (c .if4 .taken)
 
 returns-4 : tie.Need-returns-4 Inv-loop μ-loop
-returns-4 c = zero-alone (c .before .before .before .before .before .before .loop .inv) (search needs) (search needs) (c .before .if3 .left) (c .if4 .left)
+returns-4 c =
+    let c6 = c .before .before .before .before .before .before in
+    zero-alone (c6 .loop .inv) (search needs) (search needs) (c .before .if3 .left) (c .if4 .left)
 
 returns-5 : tie.Need-returns-5 Inv-loop μ-loop
 returns-5 c = none-left (c .before .loop .inv) (c .loop-test .left)

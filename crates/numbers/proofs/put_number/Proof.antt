@@ -61,7 +61,10 @@ loop-less c = omega arith
 
 loop-again : tie.Need-loop-again Inv-loop μ-loop
 loop-again c =
-    turn (c .before .before .before .before .before .loop .inv) _ (c .before .before .before .before .loop-test .taken) (c .before .before .store .ensures)
+    let c2 = c .before .before in
+    let c4 = c2 .before .before in
+    let c5 = c4 .before in
+    turn (c5 .loop .inv) _ (c4 .loop-test .taken) (c2 .store .ensures)
 
 cast-store-2 : tie.Need-cast-store-2 Inv-loop μ-loop
 cast-store-2 c = omega arith
@@ -78,7 +81,10 @@ same-length c =
 
 returns : tie.Need-returns Inv-loop μ-loop
 returns c =
-    done (c .before .before .before .before .before .loop .inv) _ (c .before .before .before .before .loop-test .left) (c .before .before .store2 .ensures)
+    let c2 = c .before .before in
+    let c4 = c2 .before .before in
+    let c5 = c4 .before in
+    done (c5 .loop .inv) _ (c4 .loop-test .left) (c2 .store2 .ensures)
 
 pub put-number-spec : {M : Type 1} → statement M
 put-number-spec =

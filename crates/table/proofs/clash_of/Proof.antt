@@ -24,8 +24,12 @@ code-of-requires-2 c κs = search needs
 returns-2 : tie.Need-returns-2
 unfolding clashOf
 returns-2 c =
-    next-decides (c .before .before .before .before .before .rule-broken .ensures) (c .before .before .before .before .code-of .ensures) (c .before .before .before .if1 .left)
-    (fault-stays (c .before .before .rule-broken2 .ensures) (c .before .code-of2 .ensures) _ (c .if2 .taken))
+    let c2 = c .before .before in
+    let c3 = c2 .before in
+    let c4 = c3 .before in
+    let c5 = c4 .before in
+    next-decides (c5 .rule-broken .ensures) (c4 .code-of .ensures) (c3 .if1 .left)
+    (fault-stays (c2 .rule-broken2 .ensures) (c .before .code-of2 .ensures) _ (c .if2 .taken))
 
 rule-broken-requires-3 : tie.Need-rule-broken-requires-3
 rule-broken-requires-3 c κs = search needs
@@ -33,8 +37,13 @@ rule-broken-requires-3 c κs = search needs
 returns-3 : tie.Need-returns-3
 unfolding clashOf
 returns-3 c =
-    next-decides (c .before .before .before .before .before .before .rule-broken .ensures) (c .before .before .before .before .before .code-of .ensures) (c .before .before .before .before .if1 .left)
-    (next-decides (c .before .before .before .rule-broken2 .ensures) (c .before .before .code-of2 .ensures) (c .before .if2 .left) (c .rule-broken3 .ensures))
+    let c2 = c .before .before in
+    let c3 = c2 .before in
+    let c4 = c3 .before in
+    let c5 = c4 .before in
+    let c6 = c5 .before in
+    next-decides (c6 .rule-broken .ensures) (c5 .code-of .ensures) (c4 .if1 .left)
+    (next-decides (c3 .rule-broken2 .ensures) (c2 .code-of2 .ensures) (c .before .if2 .left) (c .rule-broken3 .ensures))
 
 pub clash-of-spec : {M : Type 1} → statement M
 clash-of-spec =

@@ -109,9 +109,11 @@ loop-less c = omega arith
 
 loop-again : tie.Need-loop-again Inv-loop μ-loop Inv-rows μ-rows
 loop-again c =
-    let inner = c .before .before .before .before in
+    let c3 = c .before .before .before in
+    let c4 = c3 .before in
+    let inner = c4 in
     let rows = inner .before .before .before in
-    next-earlier _ _ _ _ (rows .rows .inv) (inner .before .before .rows-test .taken) _ (inner .loop .inv) (c .before .before .before .loop-test .taken)
+    next-earlier _ _ _ _ (rows .rows .inv) (inner .before .before .rows-test .taken) _ (inner .loop .inv) (c3 .loop-test .taken)
     (sym (c .before .breaks-rule .ensures) ∙ c .if1 .left)
 
 add-i : tie.Need-add-i Inv-loop μ-loop Inv-rows μ-rows
@@ -131,9 +133,11 @@ returns c = nowhere _ _ _ _ (c .before .rows .inv) (c .rows-test .left)
 
 returns-2 : tie.Need-returns-2 Inv-loop μ-loop Inv-rows μ-rows
 returns-2 c =
-    let inner = c .before .before .before .before in
+    let c3 = c .before .before .before in
+    let c4 = c3 .before in
+    let inner = c4 in
     let rows = inner .before .before .before in
-    here _ _ _ _ (rows .rows .inv) (inner .before .before .rows-test .taken) _ (inner .loop .inv) (c .before .before .before .loop-test .taken)
+    here _ _ _ _ (rows .rows .inv) (inner .before .before .rows-test .taken) _ (inner .loop .inv) (c3 .loop-test .taken)
     (sym (c .before .breaks-rule .ensures) ∙ c .if1 .taken)
 
 pub first-clash-spec : {M : Type 1} → statement M

@@ -29,7 +29,9 @@ first-fault-requires c κs = search needs
 returns : tie.Need-returns
 unfolding head wanted
 returns c =
-    c .first-fault .ensures ∙ rw (c .before .before .before .before .before .left-after .ensures, c .before .before .before .before .before .before .fields-of .ensures)
+    let c5 = c .before .before .before .before .before in
+    let c6 = c5 .before in
+    c .first-fault .ensures ∙ rw (c5 .left-after .ensures, c6 .fields-of .ensures)
 
 pub head-fault-spec : {M : Type 1} → statement M
 head-fault-spec =

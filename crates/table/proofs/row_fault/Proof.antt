@@ -15,11 +15,15 @@ use Rattle.table.proofs.row_fault.Tie as tie
 
 -- its fields are in their ranges
 good-fields : (c : tie.Else1) → GoodHead (c .before .before .before .before .args .used) (c .before .before .before .before .args .row)
-good-fields c = head-found _ _ _ (sym (ap codeOf (c .before .before .head-fault .ensures)) ∙ (sym (c .before .code-of .ensures) ∙ c .if1 .left))
+good-fields c =
+    let c2 = c .before .before in
+    head-found _ _ _ (sym (ap codeOf (c2 .head-fault .ensures)) ∙ (sym (c .before .code-of .ensures) ∙ c .if1 .left))
 
 -- its times lie within the table's
-room-of : (c : tie.Else1) → c .before .before .before .before .args .used + c .before .before .before .before .args .row .parts ≤ length (now (c .before .before .before .before .args .times))
-room-of c = omega (arith, good-fields c .room, c .before .before .before .before .pre .1)
+room-of : (c : tie.Else1) → let a = c .before .before .before .before .args in a .used + a .row .parts ≤ length (now (a .times))
+room-of c =
+    let c4 = c .before .before .before .before in
+    omega (arith, good-fields c .room, c4 .pre .1)
 
 head-fault-requires : tie.Need-head-fault-requires
 head-fault-requires c κs = search needs
@@ -56,8 +60,11 @@ times-fault-requires c κs =
 returns-2 : tie.Need-returns-2
 unfolding rowFault
 returns-2 c =
-    next-decides (c .before .before .before .before .before .head-fault .ensures) (c .before .before .before .before .code-of .ensures) (c .before .before .before .if1 .left)
-    (c .times-fault .ensures ∙ rw (part-length _ _ _ (room-of (c .before .before .before)), part-is))
+    let c3 = c .before .before .before in
+    let c4 = c3 .before in
+    let c5 = c4 .before in
+    next-decides (c5 .head-fault .ensures) (c4 .code-of .ensures) (c3 .if1 .left)
+    (c .times-fault .ensures ∙ rw (part-length _ _ _ (room-of (c3)), part-is))
 
 pub row-fault-spec : {M : Type 1} → statement M
 row-fault-spec =

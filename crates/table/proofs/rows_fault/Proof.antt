@@ -83,11 +83,18 @@ code-of-requires c κs = search needs
 
 returns : tie.Need-returns Inv-loop μ-loop
 returns c =
-    stops (c .before .before .before .before .before .before .loop .inv) (c .before .before .before .before .before .loop-test .taken) _ _ (c .before .before .row-fault .ensures) (c .before .code-of .ensures) (c .if1 .taken)
+    let c2 = c .before .before in
+    let c5 = c2 .before .before .before in
+    let c6 = c5 .before in
+    stops (c6 .loop .inv) (c5 .loop-test .taken) _ _ (c2 .row-fault .ensures) (c .before .code-of .ensures) (c .if1 .taken)
 
 add-used : tie.Need-add-used Inv-loop μ-loop
 add-used c =
-    omega (arith, fits (c .before .before .before .before .before .before .before .loop .inv) (c .before .before .before .before .before .before .loop-test .taken) _ _ (c .before .before .before .row-fault .ensures) (c .before .before .code-of .ensures) (c .before .if1 .left))
+    let c2 = c .before .before in
+    let c3 = c2 .before in
+    let c6 = c3 .before .before .before in
+    let c7 = c6 .before in
+    omega (arith, fits (c7 .loop .inv) (c6 .loop-test .taken) _ _ (c3 .row-fault .ensures) (c2 .code-of .ensures) (c .before .if1 .left))
 
 add-i : tie.Need-add-i Inv-loop μ-loop
 add-i c = omega arith
@@ -97,7 +104,11 @@ loop-less c = omega arith
 
 loop-again : tie.Need-loop-again Inv-loop μ-loop
 loop-again c =
-    turn (c .before .before .before .before .before .before .before .loop .inv) (c .before .before .before .before .before .before .loop-test .taken) _ _ (c .before .before .before .row-fault .ensures) (c .before .before .code-of .ensures) (c .before .if1 .left)
+    let c2 = c .before .before in
+    let c3 = c2 .before in
+    let c6 = c3 .before .before .before in
+    let c7 = c6 .before in
+    turn (c7 .loop .inv) (c6 .loop-test .taken) _ _ (c3 .row-fault .ensures) (c2 .code-of .ensures) (c .before .if1 .left)
 
 returns-2 : tie.Need-returns-2 Inv-loop μ-loop
 returns-2 c = ends (c .before .loop .inv) (c .loop-test .left)

@@ -32,7 +32,9 @@ first-fault-requires c κs = ranges-same 1 16777215 16777215 _ 64 (c .before .be
 
 returns : tie.Need-returns
 returns c =
-    c .first-fault .ensures ∙ ap (λ (ws : List Wanted). faultIn ws (c .before .before .before .before .before .args .i) (now (c .before .before .before .before .before .args .times))) (wanted-same 1 16777215 16777215 _ 64 (c .before .before .before .before .before .pre))
+    let c5 = c .before .before .before .before .before in
+    c .first-fault .ensures ∙ ap (λ (ws : List Wanted). faultIn ws (c5 .args .i) (now (c5 .args .times)))
+    (wanted-same 1 16777215 16777215 _ 64 (c5 .pre))
 
 pub times-fault-spec : {M : Type 1} → statement M
 times-fault-spec =
