@@ -78,8 +78,7 @@ module _ {s : List ℕ} {at n : ℕ} {rows : List Row} {times : List ℕ} {p use
         rows-turn : set rows i row ≡ padTo zeroRow 64 (map rowOf (l .done ++ (taskOf row ts ∷ [])))
         rows-turn =
             let at-end : i ≡ length (map rowOf (l .done)) = l .count ∙ sym (length-map (l .done) rowOf) in
-            let next : set (padTo zeroRow 64 (map rowOf (l .done))) (length (map rowOf (l .done))) row ≡ padTo zeroRow 64 (map rowOf (l .done) ++ (row ∷ []))
-            = set-pad zeroRow 64 (map rowOf (l .done)) row (omega arith) in
+            let next = set-pad zeroRow 64 (map rowOf (l .done)) row (omega arith) in
             rw (l .rows-are, at-end, next, map-append rowOf (l .done) (taskOf row ts ∷ []), full)
 
         times-turn : take used times ++ (ts ++ drop (used + row .parts - used) (drop used times))
@@ -111,7 +110,8 @@ abbrev μ-loop : tie.MeasureT-loop
 
 -- the fields of the row that is read now
 got-row : (c : tie.After-row Inv-loop μ-loop) → let l = c .before .before .before .before in
-    GotHead (fieldsAt (head (l .loop .used)) [] (l .before .before .before .args .bytes .now) (l .loop .p)) (c .row .given .0 .0) (c .row .given .0 .1 .0)
+    GotHead (fieldsAt (head (l .loop .used)) [] (l .before .before .before .args .bytes .now) (l .loop .p)) (c .row .given .0 .0)
+    (c .row .given .0 .1 .0)
 got-row c =
     let c2 = c .before .before in
     got-head _ _ _ (sym (c .row .given .1) ∙ c2 .read-head .ensures)
