@@ -1,0 +1,163 @@
+//! Times two report programs on the same table files, side by side.
+//!
+//! Build: rustc -O --edition 2021 docs/src/speed.rs -o target/speed
+//! Usage: speed REPORT SECOND [SEED]
+//!
+//! For each table: the time of each program (the least of some runs) and report's as a part of second's.
+
+use std::io::Write;
+use std::process::{Command, ExitCode, Stdio};
+use std::time::{Duration, Instant};
+
+/// How many runs a time is the least of, and how long they may take in all.
+const RUNS: usize = 7;
+const PATIENCE: Duration = Duration::from_secs(20);
+
+/// One task: core, kind, priority, period, deadline, times.
+struct Row(u64, u64, u64, u64, u64, Vec<u64>);
+
+/// The splitmix64 generator.
+struct Random(u64);
+
+impl Random {
+    fn next(&mut self) -> u64 {
+        self.0 = self.0.wrapping_add(0x9E37_79B9_7F4A_7C15);
+        let mut z = self.0;
+        z = (z ^ (z >> 30)).wrapping_mul(0xBF58_476D_1CE4_E5B9);
+        z = (z ^ (z >> 27)).wrapping_mul(0x94D0_49BB_1331_11EB);
+        z ^ (z >> 31)
+    }
+
+    fn between(&mut self, least: u64, most: u64) -> u64 {
+        least + self.next() % (most - least + 1)
+    }
+}
+
+/// Seven bits a byte, low bits first, shortest form.
+fn put(file: &mut Vec<u8>, mut value: u64) {
+    while value > 127 {
+        file.push((value % 128) as u8 + 128);
+        value /= 128;
+    }
+    file.push(value as u8);
+}
+
+fn file_of(rows: &[Row]) -> Vec<u8> {
+    let mut file = Vec::new();
+    put(&mut file, rows.len() as u64);
+    for (id, Row(core, kind, priority, period, deadline, times)) in (1..).zip(rows) {
+        for field in [id, *core, *kind, *priority, *period, *deadline] {
+            put(&mut file, field);
+        }
+        put(&mut file, times.len() as u64);
+        for &time in times {
+            put(&mut file, time);
+        }
+    }
+    file
+}
+
+/// 60 rows on `cores` cores, each core loaded to about `load` thousandths, periods of every size up to `longest`, `parts` parts a row.
+fn sixty(random: &mut Random, cores: u64, load: u64, longest: u64, parts: u64) -> Vec<u8> {
+    let on_core = 60 / cores;
+    let rows: Vec<Row> = (0..60)
+        .map(|i| {
+            let period = random.between(longest / 2, longest) >> random.between(0, 11);
+            let cost = (period * load / 1000 / on_core).max(parts);
+            let times = (0..parts).map(|_| cost / parts).collect();
+            // the first third of a core's rows is preemptive, and higher
+            let place = i / cores;
+            let kind = u64::from(place * 3 >= on_core);
+            Row(i % cores, kind, 200 - place, period, 16_777_215, times)
+        })
+        .collect();
+    file_of(&rows)
+}
+
+/// One run on a file.
+fn run(program: &str, file: &[u8]) -> Duration {
+    let began = Instant::now();
+    let mut child = Command::new(program)
+        .stdin(Stdio::piped())
+        .stdout(Stdio::piped())
+        .spawn()
+        .expect("the program starts");
+    let mut input = child.stdin.take().expect("its input is a pipe");
+    let _ = input.write_all(file);
+    drop(input);
+    let _ = child.wait_with_output();
+    began.elapsed()
+}
+
+/// The least time of some runs.
+fn least(program: &str, file: &[u8]) -> Duration {
+    let began = Instant::now();
+    let mut best = run(program, file);
+    for _ in 1..RUNS {
+        if began.elapsed() > PATIENCE {
+            break;
+        }
+        best = best.min(run(program, file));
+    }
+    best
+}
+
+fn main() -> ExitCode {
+    let words: Vec<String> = std::env::args().collect();
+    let (Some(report), Some(second)) = (words.get(1), words.get(2)) else {
+        eprintln!("usage: speed REPORT SECOND [SEED]");
+        return ExitCode::from(2);
+    };
+    let seed = words.get(3).and_then(|w| w.parse().ok()).unwrap_or(1);
+    let mut random = Random(seed);
+    let tables = [
+        ("empty file", Vec::new()),
+        (
+            "light: 60 rows, 4 cores",
+            sixty(&mut random, 4, 400, 100_000, 2),
+        ),
+        (
+            "light: 60 rows, 1 core",
+            sixty(&mut random, 1, 600, 100_000, 2),
+        ),
+        (
+            "heavy: 60 rows, 1 core, load 0.92",
+            sixty(&mut random, 1, 920, 4_000_000, 4),
+        ),
+        (
+            "heavy: 60 rows, 1 core, load 0.95",
+            sixty(&mut random, 1, 950, 8_000_000, 4),
+        ),
+        (
+            "heavy: 60 rows, 1 core, load 0.95, 16 parts",
+            sixty(&mut random, 1, 950, 8_000_000, 16),
+        ),
+        (
+            "many jobs: T 2 C 1 above one part of 8,388,607",
+            file_of(&[
+                Row(0, 1, 2, 2, 16_777_215, vec![1]),
+                Row(0, 1, 1, 16_777_215, 16_777_215, vec![8_388_607]),
+            ]),
+        ),
+        (
+            "many rounds: T 1 C 1 above T 5 C 1",
+            file_of(&[Row(0, 1, 2, 1, 1, vec![1]), Row(0, 1, 1, 5, 5, vec![1])]),
+        ),
+    ];
+    println!(
+        "{:>10} {:>10} {:>7}  table",
+        "report ms", "second ms", "ratio"
+    );
+    for (name, file) in tables {
+        let (a, b) = (least(report, &file), least(second, &file));
+        let milliseconds = |d: Duration| d.as_secs_f64() * 1000.0;
+        let ratio = a.as_secs_f64() / b.as_secs_f64();
+        println!(
+            "{:>10.2} {:>10.2} {:>7.3}  {name}",
+            milliseconds(a),
+            milliseconds(b),
+            ratio
+        );
+    }
+    ExitCode::SUCCESS
+}
