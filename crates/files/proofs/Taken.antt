@@ -4,7 +4,7 @@ use native.Mathlib.Omega.{arith}
 use mathlib.Core.Path.{_≡_, refl, sym, ap, _∙_}
 use mathlib.Core.Bool.{Bool, true, false}
 use mathlib.Core.List.{List, [], _∷_, _++_, append-assoc, append-nil}
-use lib.ListN.{length, drop}
+use lib.ListN.{length, drop, length-append}
 use Rattle.lists.proofs.Tests.{by-test}
 use Rattle.numbers.specs.Numbers.{Bytes, numberAt, encode, encodeAll}
 use Rattle.numbers.specs.declared.Number.{Number}
@@ -60,6 +60,7 @@ joined s at m n a b e f = e ∙ ap (_++_ a) f ∙ sym (append-assoc a b (drop n 
 pub record Read (w : Wanted) (s : List ℕ) (at v n : ℕ) : Type 0 where
   pub fine : Fine w v
   pub bytes : Bytes s → Between s at (encode v) n
+  pub past : Bytes s → n ≡ at + length (encode v)
 
 pub field-read : (w : Wanted) (s : List ℕ) (at v n : ℕ) → fieldAt w s at ≡ go v n → Read w s at v n
 unfolding fieldAt asked
@@ -69,7 +70,11 @@ field-read w s at v n e = by (numberAt s at) refl
     by (N.Got u m) q =
         let f : unless (judge w at u) u m ≡ go v n = rw q at e in
         let p = passed (judge w at u) u m v n f in
-        rw (← p .same, ← p .place) record { fine = good-fine w at u (p .fine); bytes = λ bs. stands s at u m bs q .bytes }
+        rw (← p .same, ← p .place) record {
+          fine = good-fine w at u (p .fine);
+          bytes = λ bs. stands s at u m bs q .bytes;
+          past = λ bs. stands s at u m bs q .past;
+        }
     by N.EndsEarly q = let f : _≡_ {A = Step ℕ} (stop _) (go v n) = rw q at e in stopped-not _ refl f
     by N.Malformed q = let f : _≡_ {A = Step ℕ} (stop _) (go v n) = rw q at e in stopped-not _ refl f
 
@@ -79,6 +84,7 @@ pub record Taken (ws : List Wanted) (done s : List ℕ) (at : ℕ) (all : List �
   pub whole : all ≡ done ++ numbers
   pub fine : AllFine ws numbers
   pub bytes : Bytes s → Between s at (encodeAll numbers) n
+  pub past : Bytes s → n ≡ at + length (encodeAll numbers)
 
 pub taken : (ws : List Wanted) (done s : List ℕ) (at : ℕ) (all : List ℕ) (n : ℕ) → fieldsAt ws done s at ≡ go all n
     → Taken ws done s at all n
@@ -86,7 +92,7 @@ unfolding fieldsAt AllFine encodeAll
 taken [] done s at all n e =
     let same : done ≡ all = cc in
     let here : at ≡ n = cc in
-    record { numbers = []; whole = sym same ∙ sym (append-nil done); fine = tt; bytes = λ bs. ap (λ (k : ℕ). drop k s) here }
+    record { numbers = []; whole = sym same ∙ sym (append-nil done); fine = tt; bytes = λ bs. ap (λ (k : ℕ). drop k s) here; past = λ bs. omega arith }
 taken (w ∷ ws) done s at all n e =
     let r = then-read (fieldAt w s at) (λ v m. fieldsAt ws (done ++ (v ∷ [])) s m) all n e in
     more (r .what) (r .place) (field-read w s at (r .what) (r .place) (r .first)) (taken ws (done ++ (r .what ∷ [])) s (r .place) all n (r .rest))
@@ -97,15 +103,17 @@ taken (w ∷ ws) done s at all n e =
       whole = l .whole ∙ append-assoc done (v ∷ []) (l .numbers);
       fine = (f .fine, l .fine);
       bytes = λ bs. joined s at m n (encode v) (encodeAll (l .numbers)) (f .bytes bs) (l .bytes bs);
+      past = λ bs. omega (arith, f .past bs, l .past bs, length-append (encode v) (encodeAll (l .numbers)));
     }
 
 -- from nothing done: all of them
 pub record TakenAll (ws : List Wanted) (s : List ℕ) (at : ℕ) (all : List ℕ) (n : ℕ) : Type 0 where
   pub fine : AllFine ws all
   pub bytes : Bytes s → Between s at (encodeAll all) n
+  pub past : Bytes s → n ≡ at + length (encodeAll all)
 
 pub taken-all : (ws : List Wanted) (s : List ℕ) (at : ℕ) (all : List ℕ) (n : ℕ) → fieldsAt ws [] s at ≡ go all n → TakenAll ws s at all n
-taken-all ws s at all n e = let r = taken ws [] s at all n e in rw (r .whole) record { fine = r .fine; bytes = r .bytes }
+taken-all ws s at all n e = let r = taken ws [] s at all n e in rw (r .whole) record { fine = r .fine; bytes = r .bytes; past = r .past }
 
 -- a row's fields that were read are in their ranges
 pub head-read : (used : ℕ) (s : List ℕ) (at : ℕ) (fields : List ℕ) (n : ℕ) → fieldsAt (head used) [] s at ≡ go fields n

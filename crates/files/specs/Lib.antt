@@ -2,3 +2,4 @@ pub mod Reading
 pub mod Writing
 pub mod Promises
 pub mod RoundTrips
+pub mod Enough

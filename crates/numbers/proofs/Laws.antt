@@ -1,6 +1,6 @@
 -- Laws of the seven-bit numbers, for the proofs of code that reads and writes them. Assumes nothing.
 use Prim.Native.Nat.{ℕ, zero, suc, _+_, _-_, _*_, _/_, _%_, _^_, _≤_, _<_}
-use native.Mathlib.Nat.{mul-assoc, mul-add, add-assoc, pow-suc}
+use native.Mathlib.Nat.{mul-assoc, mul-add, add-assoc, suc-add, pow-suc}
 use native.Mathlib.Decide.{decLt}
 use native.Mathlib.Numerals.{add-one, sub-one}
 use native.Mathlib.Omega.{arith}
@@ -8,8 +8,8 @@ use borrow.Author.Tests.{lt-ltb, le-ltb}
 use mathlib.Core.Path.{_≡_, refl, sym, ap, ap₂, _∙_}
 use mathlib.Core.List.{List, [], _∷_, _++_, append-assoc}
 use mathlib.Core.Bool.{Bool, true, false}
-use lib.ListN.{length, getD, drop, drop-of-length-le}
-use lib.Seq.{drop-cons}
+use lib.ListN.{length, getD, take, drop, drop-of-length-le}
+use lib.Seq.{drop-cons, take-nil}
 use lib.Dec.{ltb}
 use Rattle.lists.specs.Lists.{pick}
 use Rattle.numbers.specs.declared.Number.{Number}
@@ -36,6 +36,30 @@ pub groups-cons : (alone : Bool) (k p : ℕ) (s : List ℕ) → 0 < k → p < le
 unfolding groups
 groups-cons alone zero p s h l = absurd (omega arith)
 groups-cons alone (suc k) p s h l = rw (sub-one, add-one, drop-cons s p 0)
+
+-- only the first k bytes have a say
+pub groups-front : (alone : Bool) (k m : ℕ) (s : List ℕ) → groups alone k (take (k + m) s) ≡ groups alone k s
+unfolding groups
+groups-front alone zero m s = refl
+groups-front alone (suc k) m [] = rw take-nil
+groups-front alone (suc k) m (b ∷ s) =
+    rw suc-add (ap (λ (x : Number). pick (ltb b 128) (last alone b) (after (b - 128) 128 1 x)) (groups-front false k m s))
+
+-- where there are k bytes, a number does not end early
+pub groups-enough : (alone : Bool) (k : ℕ) (s : List ℕ) → k ≤ length s → groups alone k s ≡ EndsEarly → ⊥
+unfolding groups
+groups-enough alone zero s h e = let z : _≡_ {A = ℕ} 0 1 = cc in omega arith
+groups-enough alone (suc k) [] h e = omega arith
+groups-enough alone (suc k) (b ∷ s) h e = by (ltb b 128) alone (ltb 0 b) (groups false k s) (groups-enough false k s (omega arith)) e
+  where
+    by : (t a u : Bool) (x : Number) → (x ≡ EndsEarly → ⊥)
+        → pick t (pick a (Got b 1) (pick u (Got b 1) Malformed)) (after (b - 128) 128 1 x) ≡ EndsEarly → ⊥
+    by true true u x q f = let z : _≡_ {A = ℕ} 0 1 = cc in omega arith
+    by true false true x q f = let z : _≡_ {A = ℕ} 0 1 = cc in omega arith
+    by true false false x q f = let z : _≡_ {A = ℕ} 0 1 = cc in omega arith
+    by false a u (Got v n) q f = let z : _≡_ {A = ℕ} 0 1 = cc in omega arith
+    by false a u EndsEarly q f = q refl
+    by false a u Malformed q f = let z : _≡_ {A = ℕ} 0 1 = cc in omega arith
 
 -- a number below 128 is its one byte
 pub encode-in-one : (k n : ℕ) → n < 128 → encodeIn (suc k) n ≡ n ∷ []

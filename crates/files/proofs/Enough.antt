@@ -1,0 +1,180 @@
+-- 5,124 bytes are enough to judge any file: no number that is wanted begins past offset 5,120. Assumes nothing.
+use Prim.Native.Nat.{ℕ, zero, suc, _+_, _-_, _*_, _≤_, _<_}
+use native.Mathlib.Omega.{arith}
+use borrow.Author.Tests.{lt-ltb}
+use mathlib.Core.Path.{_≡_, refl, sym, ap, _∙_}
+use mathlib.Core.Logic.{⊎-elim}
+use mathlib.Core.Bool.{true}
+use mathlib.Core.List.{List, [], _∷_, _++_}
+use lib.ListN.{length, take, drop, replicate, length-append, length-drop, length-replicate}
+use lib.Seq.{take-all, length-take-le}
+use Rattle.lists.specs.Lists.{total}
+use Rattle.lists.proofs.Fronts.{drop-front}
+use Rattle.lists.proofs.Tests.{either}
+use Rattle.numbers.specs.Numbers.{Bytes, after, groups, numberAt, encode}
+use Rattle.numbers.specs.declared.Number.{Number}
+use Rattle.numbers.specs.declared.Number.the-variants as N
+use Rattle.numbers.proofs.Laws.{groups-front, groups-enough, encode-some, length-one}
+use Rattle.numbers.proofs.Sizes.{longer}
+use Rattle.model.specs.Task.{Task}
+use Rattle.table.specs.Fields.{Wanted, field, head, time, rowFrom}
+use Rattle.table.specs.Memory.{taskOf, allTimes}
+use Rattle.table.proofs.Heads.{GoodHead}
+use Rattle.table.proofs.Seven.{all-length}
+use Rattle.table.proofs.Stored.{all-times-snoc}
+use Rattle.files.specs.Reading.{Step, stop, go, _then_, asked, fieldAt, fieldsAt, rowAt, rowsAt, endAt, decode, loaded, readAnswer}
+use Rattle.files.specs.Enough.{EnoughToJudge}
+use Rattle.files.proofs.Sizes.{bytesOf, short, bytes-head, bytes-times}
+use Rattle.files.proofs.Taken.{field-read, taken-all, head-read, then-read}
+
+-- steps that agree, and go on alike
+then-same : {A B : Type 0} (x y : Step A) (f g : A → ℕ → Step B) → x ≡ y → ((a : A) (n : ℕ) → x ≡ go a n → f a n ≡ g a n)
+    → (x then f) ≡ (y then g)
+unfolding _then_
+then-same (stop v) y f g e h = rw (← e)
+then-same (go a n) y f g e h = rw (← e) (h a n refl)
+
+module _ (s : List ℕ) (bs : Bytes s) (long : 5124 ≤ length s) where
+  -- the first 5,124 bytes
+  z : List ℕ
+  z = take 5124 s
+
+  -- four bytes are there to look at
+  number-same : (at : ℕ) → at + 4 ≤ 5124 → numberAt s at ≡ numberAt z at
+  unfolding numberAt z
+  number-same at h = by (5124 - (at + 4)) (omega arith)
+    where
+      by : (rest : ℕ) → 5124 ≡ at + (4 + rest) → after 0 1 at (groups true 4 (drop at s)) ≡ after 0 1 at (groups true 4 (drop at (take 5124 s)))
+      by rest all =
+          let cut = ap (λ (n : ℕ). drop at (take n s)) all ∙ drop-front at (4 + rest) s in
+          ap (after 0 1 at) (sym (ap (groups true 4) cut ∙ groups-front true 4 rest (drop at s)))
+
+  not-early : (at : ℕ) → at + 4 ≤ 5124 → numberAt s at ≡ N.EndsEarly → ⊥
+  unfolding numberAt
+  not-early at h e = by (groups true 4 (drop at s)) refl e
+    where
+      by : (x : Number) → groups true 4 (drop at s) ≡ x → after 0 1 at x ≡ N.EndsEarly → ⊥
+      by (N.Got v n) q f = let w : _≡_ {A = ℕ} 0 1 = cc in omega arith
+      by N.EndsEarly q f = groups-enough true 4 (drop at s) (rw length-drop (omega arith)) q
+      by N.Malformed q f = let w : _≡_ {A = ℕ} 0 1 = cc in omega arith
+
+  field-same : (w : Wanted) (at : ℕ) → at + 4 ≤ 5124 → fieldAt w s at ≡ fieldAt w z at
+  unfolding fieldAt asked
+  field-same w at h = by (numberAt s at) refl
+    where
+      by : (x : Number) → numberAt s at ≡ x → asked w s at (numberAt s at) ≡ asked w z at (numberAt z at)
+      by (N.Got v n) q = rw (← number-same at h, q)
+      by N.EndsEarly q = absurd (not-early at h q)
+      by N.Malformed q = rw (← number-same at h, q)
+
+  -- where a number that was read ends
+  next-ends : (w : Wanted) (at v n rest : ℕ) → at + (bytesOf w + rest) ≤ 5121 → fieldAt w s at ≡ go v n → n + rest ≤ 5121
+  next-ends w at v n rest h e =
+      let r = field-read w s at v n e in
+      let size : length (encode v) ≤ bytesOf w = unfold bytesOf in longer v (w .high) (r .fine .most) in
+      omega (arith, r .past bs)
+
+  -- where a row's fields end, and its times
+  fields-end : (used at : ℕ) (fields : List ℕ) (n : ℕ) → fieldsAt (head used) [] s at ≡ go fields n → n ≤ at + 16
+  fields-end used at fields n e =
+      let r = taken-all (head used) s at fields n e in
+      omega (arith, r .past bs, short (head used) fields (r .fine), bytes-head used)
+
+  times-end : (i used at : ℕ) (fields : List ℕ) (n : ℕ) → i < 64 → used ≤ 1024 → at ≤ 1 + (16 * i + 4 * used)
+      → fieldsAt (head used) [] s at ≡ go fields n → n + total bytesOf (replicate (rowFrom fields .parts) time) ≤ 5121
+  times-end i used at fields n few room h e =
+      rw (bytes-times (rowFrom fields .parts)) (omega (arith, fields-end used at fields n e, head-read used s at fields n e .room))
+
+  -- numbers one after another that end by offset 5,121 at the latest
+  fields-same : (ws : List Wanted) (done : List ℕ) (at : ℕ) → at + total bytesOf ws ≤ 5121 → fieldsAt ws done s at ≡ fieldsAt ws done z at
+  unfolding fieldsAt total
+  fields-same [] done at h = refl
+  fields-same (w ∷ ws) done at h =
+      let own : 0 < bytesOf w = unfold bytesOf in encode-some (w .high) in
+      then-same (fieldAt w s at) (fieldAt w z at) _ _ (field-same w at (omega arith))
+      (λ v n e. fields-same ws (done ++ (v ∷ [])) n (next-ends w at v n (total bytesOf ws) h e))
+
+  -- a row, the i-th with `used` times before it
+  row-same : (i used at : ℕ) → i < 64 → used ≤ 1024 → at ≤ 1 + (16 * i + 4 * used) → rowAt used s at ≡ rowAt used z at
+  unfolding rowAt
+  row-same i used at few room h =
+      then-same (fieldsAt (head used) [] s at) (fieldsAt (head used) [] z at) _ _
+      (fields-same (head used) [] at (rw (bytes-head used) (omega arith)))
+      (λ fields n e. then-same (fieldsAt (replicate (rowFrom fields .parts) time) [] s n) _ _ _
+      (fields-same _ [] n (times-end i used at fields n few room h e))
+      (λ times m f. refl))
+
+  -- where a row ends
+  row-end : (used at : ℕ) (task : Task) (n : ℕ) → rowAt used s at ≡ go task n
+      → (n ≤ at + (16 + 4 * length (task .times))) × (used + length (task .times) ≤ 1024)
+  unfolding rowAt
+  row-end used at task n e =
+      let a = then-read (fieldsAt (head used) [] s at) _ task n e in
+      let b = then-read (fieldsAt (replicate (rowFrom (a .what) .parts) time) [] s (a .place)) _ task n (a .rest) in
+      by (a .what) (a .place) (a .first) (b .what) (b .place) (b .first) (b .rest)
+    where
+      by : (fields : List ℕ) (p : ℕ) → fieldsAt (head used) [] s at ≡ go fields p → (times : List ℕ) (q : ℕ)
+          → fieldsAt (replicate (rowFrom fields .parts) time) [] s p ≡ go times q → go (taskOf (rowFrom fields) times) q ≡ go task n
+          → (n ≤ at + (16 + 4 * length (task .times))) × (used + length (task .times) ≤ 1024)
+      by fields p f times q g last =
+          let same : taskOf (rowFrom fields) times ≡ task = cc in
+          let here : q ≡ n = cc in
+          let r = taken-all (replicate (rowFrom fields .parts) time) s p times q g in
+          let count : length times ≡ rowFrom fields .parts = all-length _ times (r .fine) ∙ length-replicate (rowFrom fields .parts) time in
+          let own : length (task .times) ≡ rowFrom fields .parts = ap (λ (t : Task). length (t .times)) (sym same) ∙ count in (
+            omega (arith, r .past bs, short _ times (r .fine), bytes-times (rowFrom fields .parts), fields-end used at fields p f),
+            omega (arith, head-read used s at fields p f .room),
+          )
+
+  -- rows one after another
+  rows-same : (k : ℕ) (done : List Task) (at : ℕ) → length done + k ≤ 64 → length (allTimes done) ≤ 1024
+      → at ≤ 1 + (16 * length done + 4 * length (allTimes done)) → rowsAt k done s at ≡ rowsAt k done z at
+  unfolding rowsAt
+  rows-same zero done at few room h = refl
+  rows-same (suc k) done at few room h =
+      then-same (rowAt (length (allTimes done)) s at) _ _ _ (row-same (length done) (length (allTimes done)) at (omega arith) room h)
+      (λ task n e.
+      let own = row-end (length (allTimes done)) at task n e in
+      let times = ap length (all-times-snoc done task) ∙ length-append (allTimes done) (task .times) in
+      let rows = length-append done (task ∷ []) in
+      rows-same k (done ++ (task ∷ [])) n (omega (arith, rows)) (omega (arith, times, own .1)) (omega (arith, times, rows, own .0)))
+
+  -- where they all end
+  rows-end : (k : ℕ) (done : List Task) (at : ℕ) (tasks : List Task) (n : ℕ) → length done + k ≤ 64 → length (allTimes done) ≤ 1024
+      → at ≤ 1 + (16 * length done + 4 * length (allTimes done)) → rowsAt k done s at ≡ go tasks n → n ≤ 5121
+  unfolding rowsAt
+  rows-end zero done at tasks n few room h e = let here : at ≡ n = cc in omega arith
+  rows-end (suc k) done at tasks n few room h e =
+      let r = then-read (rowAt (length (allTimes done)) s at) _ tasks n e in
+      let own = row-end (length (allTimes done)) at (r .what) (r .place) (r .first) in
+      let times = ap length (all-times-snoc done (r .what)) ∙ length-append (allTimes done) (r .what .times) in
+      let rows = length-append done (r .what ∷ []) in
+      rows-end k (done ++ (r .what ∷ [])) (r .place) tasks n (omega (arith, rows)) (omega (arith, times, own .1))
+      (omega (arith, times, rows, own .0)) (r .rest)
+
+  -- bytes are left after them, in the file as in its front
+  end-same : (tasks : List Task) (at : ℕ) → at ≤ 5121 → endAt s tasks at ≡ endAt z tasks at
+  unfolding endAt z
+  end-same tasks at h =
+      let cut : length (take 5124 s) ≡ 5124 = length-take-le 5124 s long in
+      rw (lt-ltb at (length s) (omega arith), lt-ltb at (length (take 5124 s)) (omega arith))
+
+  file-same : decode s ≡ decode z
+  unfolding decode
+  file-same =
+      then-same (fieldAt (field 0 64) s 0) _ _ _ (field-same (field 0 64) 0 (omega arith))
+      (λ count at e.
+      let r = field-read (field 0 64) s 0 count at e in
+      let one = length-one count (omega (arith, r .fine .most)) in
+      let none : length (allTimes []) ≡ 0 = unfold allTimes in refl in
+      let few : 0 + count ≤ 64 = omega (arith, r .fine .most) in
+      let first : at ≤ 1 + (16 * 0 + 4 * length (allTimes [])) = omega (arith, r .past bs) in
+      then-same (rowsAt count [] s at) _ _ _ (rows-same count [] at few (omega arith) first)
+      (λ tasks n f. end-same tasks n (rows-end count [] at tasks n few (omega arith) first f)))
+
+-- a longer file is judged by its front; a shorter one is its front
+pub enough-to-judge : EnoughToJudge
+unfolding readAnswer z
+enough-to-judge s bs =
+    ⊎-elim (λ h. ap loaded (sym (file-same s bs (omega arith)))) (λ h. ap (λ (l : List ℕ). loaded (decode l)) (take-all 5124 s h))
+    (either 5124 (length s))
