@@ -37,14 +37,14 @@ pub fn only_core(t: Table, core: u32) -> Table
     while i < n {
         let row = t.rows[i];
         let parts = row.parts as usize;
-        let end = used + parts;
+        let next = used + parts;
         if row.core == core {
-            lists::copy(&from[used..end], &mut times[kept..]);
+            lists::copy(&from[used..next], &mut times[kept..]);
             rows[count] = row;
             count += 1;
             kept += parts;
         }
-        used = end;
+        used = next;
         i += 1;
     }
     Table { count, rows, times }

@@ -1,8 +1,8 @@
 -- Going through a table row by row: which tasks are still ahead, and where the next one's times begin. Assumes nothing.
-use Prim.Native.Nat.{ℕ, suc, _+_, _-_, _≤_, _<_}
-use native.Mathlib.Nat.{add-zero, zero-add}
+use Prim.Native.Nat.{ℕ, _+_, _-_, _≤_, _<_}
+use native.Mathlib.Nat.{add-zero}
 use native.Mathlib.Omega.{arith}
-use mathlib.Core.Path.{_≡_, refl, sym, ap, subst, _∙_}
+use mathlib.Core.Path.{_≡_, refl, sym, ap, _∙_}
 use mathlib.Core.List.{List, [], _∷_, _++_, map, append-assoc, List·Memᴰ·head, List·Memᴰ·tail}
 use lib.ListN.{length, getD, take, drop, length-append, take-append-drop}
 use lib.Seq.{getD-drop, drop-drop, take-append-seam, drop-append-seam}
@@ -13,9 +13,9 @@ use Rattle.model.specs.Rows.{GoodTask}
 use Rattle.table.specs.declared.Row.{Row}
 use Rattle.table.specs.declared.Table.{Table}
 use Rattle.table.specs.Verdicts.{codeOf}
-use Rattle.table.specs.Memory.{zeroRow, rowOf, taskOf, allTimes, stored, usedRows, usedTimes, partsIn, tasksOf}
+use Rattle.table.specs.Memory.{zeroRow, rowOf, allTimes, stored, usedRows, usedTimes, partsIn, tasksOf}
 use Rattle.table.specs.Faults.{faultOf}
-use Rattle.table.proofs.Stored.{tasks-stored, times-found}
+use Rattle.table.proofs.Stored.{times-found}
 use Rattle.table.proofs.GoodTasks.{times-fit, count-few, count-same, rows-same, tasks-good}
 use Rattle.table.proofs.EachGood.{each-good}
 

@@ -8,4 +8,5 @@ pub mod Stored
 pub mod GoodTasks
 pub mod EachGood
 pub mod Ahead
+pub mod Laid
 pub mod Seven

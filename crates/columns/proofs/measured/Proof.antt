@@ -10,7 +10,7 @@ use Rattle.table.specs.declared.Row.{Row}
 use Rattle.table.specs.Fields.{fieldsOf}
 use Rattle.table.specs.Memory.{rowOf, taskOf}
 use Rattle.columns.specs.declared.Measure.{Measure}
-use Rattle.columns.specs.declared.Measure.the-variants.{Field, Cost, Longest}
+use Rattle.columns.specs.declared.Measure.the-variants.{Field}
 use Rattle.columns.specs.Columns.{Asked, measureOf}
 use Rattle.columns.proofs.measured.Statement.{statement}
 use Rattle.columns.proofs.measured.Tie as tie

@@ -1,12 +1,12 @@
 -- `columns::measures` meets its contract. The invariant: the numbers of the rows ahead, stored where they go, give the whole. Assumes nothing.
-use Prim.Native.Nat.{ℕ, suc, _+_, _-_, _*_, _≤_, _<_}
+use Prim.Native.Nat.{ℕ, _+_, _-_, _*_, _≤_, _<_}
 use native.Mathlib.Nat.{zero-add}
 use native.Mathlib.Numerals.{add-one}
 use native.Mathlib.Omega.{arith}
 use borrow.Author.Needs.{needs}
 use mathlib.Core.Path.{_≡_, refl, sym, ap, subst, _∙_}
-use mathlib.Core.List.{List, [], _∷_, _++_, map}
-use lib.ListN.{length, getD, take, drop, set, length-set}
+use mathlib.Core.List.{List, map}
+use lib.ListN.{length, getD, set, length-set}
 use lib.Seq.{sets, sets-eq}
 use Rattle.lists.specs.Lists.{sum}
 use Rattle.lists.proofs.Maps.{map-length}
@@ -14,8 +14,7 @@ use Rattle.lists.proofs.Sums.{sum-most}
 use Rattle.model.specs.Task.{Task, parts, part}
 use Rattle.model.specs.Rows.{GoodTask}
 use Rattle.table.specs.declared.Table.{Table}
-use Rattle.table.specs.Memory.{zeroRow, rowOf, taskOf, stored, tasksOf}
-use Rattle.table.proofs.Rows.{length-mapped}
+use Rattle.table.specs.Memory.{zeroRow, taskOf, tasksOf}
 use Rattle.table.proofs.Stored.{tasks-stored}
 use Rattle.table.proofs.Ahead.{Ahead, lent, Next, next, none-ahead, stored-ahead}
 use Rattle.columns.specs.declared.Measure.{Measure}

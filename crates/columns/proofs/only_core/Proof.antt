@@ -1,94 +1,31 @@
 -- `columns::only_core` meets its contract. The invariant: the core's rows so far lie in memory as they should, and those ahead follow.
 -- Assumes nothing.
-use Prim.Native.Nat.{ℕ, suc, _+_, _-_, _≤_, _<_}
+use Prim.Native.Nat.{ℕ, _+_, _-_, _≤_, _<_}
 use native.Mathlib.Omega.{arith}
 use borrow.Author.Needs.{needs}
-use borrow.Author.Tests.{eq-eqb, ne-eqb}
 use mathlib.Core.Path.{_≡_, refl, sym, ap, _∙_}
 use mathlib.Core.Logic.{⊎-elim}
-use mathlib.Core.List.{List, [], _∷_, _++_, map, map-append, append-assoc, append-nil}
-use lib.ListN.{length, getD, take, drop, set, length-map, length-append, length-drop}
-use lib.Seq.{sets, append-snoc, length-take-le}
-use Rattle.lists.specs.Lists.{_∈_, keep, padTo}
+use mathlib.Core.List.{List, [], _∷_, _++_, append-nil}
+use lib.ListN.{length, getD, take, drop, set}
+use lib.Seq.{sets, append-snoc}
+use Rattle.lists.specs.Lists.{_∈_}
 use Rattle.lists.proofs.Keep.{kept}
-use Rattle.lists.proofs.Pads.{set-pad}
-use Rattle.lists.proofs.PadStores.{pad-length, sets-pad}
-use Rattle.lists.proofs.Stores.{sets-from}
 use Rattle.model.specs.Task.{Task}
 use Rattle.model.specs.Rows.{GoodTask}
 use Rattle.model.specs.Bounds.{onCore}
+use Rattle.model.proofs.Cores.{core-good, core-none, core-first, core-other}
 use Rattle.table.specs.declared.Row.{Row}
 use Rattle.table.specs.declared.Table.{Table}
-use Rattle.table.specs.Verdicts.{codeOf}
-use Rattle.table.specs.Memory.{zeroRow, rowOf, allTimes, stored, tasksOf}
-use Rattle.table.specs.Faults.{faultOf}
+use Rattle.table.specs.Memory.{zeroRow, allTimes, stored, tasksOf}
 use Rattle.table.proofs.Rows.{length-mapped}
-use Rattle.table.proofs.Stored.{all-times-snoc}
+use Rattle.table.proofs.Laid.{Laid, laid-stored, times-long, behind-length, laid-more}
 use Rattle.table.proofs.EachGood.{each-good}
 use Rattle.table.proofs.Ahead.{Ahead, lent, Next, next, none-ahead, good-ahead}
 use Rattle.columns.specs.Columns.{Lies}
 use Rattle.columns.proofs.only_core.Statement.{statement}
 use Rattle.columns.proofs.only_core.Tie as tie
 
--- a core's rows are good where all rows are
-core-good : (core : ℕ) (ts : List Task) → ((u : Task) → u ∈ ts → GoodTask u) → (u : Task) → u ∈ onCore core ts → GoodTask u
-unfolding onCore
-core-good core ts good u m = good u (kept _ ts u m .0)
-
--- a row of the core is the first of it, and any other is passed over
-core-first : (core : ℕ) (u : Task) (us : List Task) → u .core ≡ core → onCore core (u ∷ us) ≡ u ∷ onCore core us
-unfolding onCore keep
-core-first core u us e = rw (eq-eqb (u .core) core e)
-
-core-other : (core : ℕ) (u : Task) (us : List Task) → (u .core ≡ core → ⊥) → onCore core (u ∷ us) ≡ onCore core us
-unfolding onCore keep
-core-other core u us e = rw (ne-eqb (u .core) core e)
-
--- no rows, none of the core
-core-none : (core : ℕ) → onCore core [] ≡ []
-unfolding onCore keep
-core-none core = refl
-
--- tasks that lie in memory, zeros behind them
-record Laid (mine : List Task) (rows : List Row) (times : List ℕ) (count kept : ℕ) : Type 0 where
-  number : count ≡ length mine
-  total : kept ≡ length (allTimes mine)
-  rows-are : rows ≡ padTo zeroRow 64 (map rowOf mine)
-  times-are : times ≡ padTo 0 1024 (allTimes mine)
-
-module _ {mine : List Task} {rows : List Row} {times : List ℕ} {count kept : ℕ} (l : Laid mine rows times count kept) where
-  -- there are always 1,024 times
-  times-long : kept ≤ 1024 → length times ≡ 1024
-  times-long h = ap length (l .times-are) ∙ pad-length 0 1024 (allTimes mine) (omega (arith, l .total))
-
-  -- one task more: its row is set behind the others, and its times are copied behind theirs
-  module _ (u : Task) (r : Row) (own : List ℕ) (row : r ≡ rowOf u) (times-own : own ≡ u .times) where
-    rows-more : count < 64 → set rows count r ≡ padTo zeroRow 64 (map rowOf (mine ++ (u ∷ [])))
-    rows-more h =
-        let at-end : count ≡ length (map rowOf mine) = l .number ∙ sym (length-map mine rowOf) in
-        rw (l .rows-are, at-end, row, map-append rowOf mine (u ∷ []))
-        (set-pad zeroRow 64 (map rowOf mine) (rowOf u) (omega arith))
-
-    times-more : (part : List ℕ) → kept + length own ≤ 1024 → part ≡ sets (take (1024 - kept) (drop kept times)) 0 own
-        → take kept times ++ (part ++ drop (1024 - kept) (drop kept times)) ≡ padTo 0 1024 (allTimes (mine ++ (u ∷ [])))
-    times-more part h e =
-        let long : length times ≡ 1024 = times-long (omega arith) in
-        let put : take kept times ++ (part ++ drop (1024 - kept) (drop kept times)) ≡ sets times kept own
-        = rw (e, ← long) (sets-from times kept own (omega arith)) in
-        let room : length (allTimes mine) + length (u .times) ≤ 1024 = omega (arith, l .total, ap length times-own) in
-        put ∙ rw (l .times-are, l .total, times-own, all-times-snoc) (sets-pad 0 1024 (allTimes mine) (u .times) room)
-
-    laid-more : (part : List ℕ) → count < 64 → kept + length own ≤ 1024 → part ≡ sets (take (1024 - kept) (drop kept times)) 0 own
-        → Laid (mine ++ (u ∷ [])) (set rows count r) (take kept times ++ (part ++ drop (1024 - kept) (drop kept times)))
-        (count + 1) (kept + r .parts)
-    laid-more part few room e =
-        record {
-          number = rw length-append (omega (arith, l .number));
-          total = rw (all-times-snoc, length-append) (omega (arith, l .total, ap (λ (x : Row). x .parts) row));
-          rows-are = rows-more few;
-          times-are = times-more part room e;
-        }
-
+-- `mine` are the core's rows so far
 record Keeping (t : Table) (core : ℕ) (rows : List Row) (times : List ℕ) (count kept used i : ℕ) : Type 0 where
   mine : List Task
   left : List Task
@@ -108,18 +45,17 @@ module _ {t : Table} {core : ℕ} {rows : List Row} {times : List ℕ} {count ke
     lent-length : length (lent t used i) ≡ getD (t .rows) i zeroRow .parts
     lent-length = rw (coming .own, coming .row)
 
-    -- its row and its times have room
+    -- its row has a place
     place : count < 64
     place = omega (arith, k .fewer, k .ahead .few)
 
+    -- its times have room
     room : kept + getD (t .rows) i zeroRow .parts ≤ 1024
     room = omega (arith, k .less, coming .room)
 
+    -- so the part that is lent for its times is long enough
     fits : length (lent t used i) ≤ length (take (1024 - kept) (drop kept times))
-    fits =
-        let long : length times ≡ 1024 = times-long (k .laid) (omega (arith, room)) in
-        let behind : length (drop kept times) ≡ length times - kept = length-drop kept times in
-        rw (length-take-le (1024 - kept) (drop kept times) (omega arith)) (omega (arith, lent-length, room))
+    fits = rw (behind-length (k .laid) (omega (arith, room))) (omega (arith, lent-length, room))
 
     -- a row of the core is kept
     keeps : (part : List ℕ) → getD (t .rows) i zeroRow .core ≡ core
@@ -167,7 +103,7 @@ module _ {t : Table} {core : ℕ} {rows : List Row} {times : List ℕ} {count ke
         few = omega (arith, ap length mine, l .number, k .fewer, k .ahead .upto, k .ahead .few);
         times = omega (arith, ap (λ (ts : List Task). length (allTimes ts)) mine, l .total, k .less, k .ahead .room);
         good = core-good core (tasksOf t) good;
-        is = (λ j. record { count = l .number j; rows = l .rows-are j; times = l .times-are j }) ∙ sym (ap stored mine);
+        is = laid-stored l ∙ sym (ap stored mine);
       }
 
 abbrev Inv-loop : tie.InvT-loop
@@ -222,8 +158,8 @@ element-copy-out-row c = omega (arith, c .before .loop .inv .ahead .few)
 cast-parts : tie.Need-cast-parts Inv-loop μ-loop
 cast-parts c = search needs
 
-add-end : tie.Need-add-end Inv-loop μ-loop
-add-end c = omega (arith, room-there (c .before .before))
+add-next : tie.Need-add-next Inv-loop μ-loop
+add-next c = omega (arith, room-there (c .before .before))
 
 mul-copy : tie.Need-mul-copy Inv-loop μ-loop
 mul-copy c = omega (arith, room-there (c .before .before .before .before))
@@ -233,11 +169,13 @@ sub-copy c = omega (arith, room-there (c .before .before .before .before))
 
 part-copy-start : tie.Need-part-copy-start Inv-loop μ-loop
 part-copy-start c =
-    omega (arith, room-there (c .before .before .before .before .before), times-there (c .before .before .before .before .before .before .before .before .before))
+    let c5 = c .before .before .before .before .before in
+    omega (arith, room-there c5, times-there (c5 .before .before .before .before))
 
 part-copy-end : tie.Need-part-copy-end Inv-loop μ-loop
 part-copy-end c =
-    omega (arith, room-there (c .before .before .before .before .before), times-there (c .before .before .before .before .before .before .before .before .before))
+    let c5 = c .before .before .before .before .before in
+    omega (arith, room-there c5, times-there (c5 .before .before .before .before))
 
 mul-times : tie.Need-mul-times Inv-loop μ-loop
 mul-times c = omega (arith, room-here (c .before .before .before .before .before .before))
@@ -301,7 +239,7 @@ only-core-spec =
     mul-row
     element-copy-out-row
     cast-parts
-    add-end
+    add-next
     mul-copy
     sub-copy
     part-copy-start
