@@ -10,3 +10,4 @@ pub mod Fronts
 pub mod Pads
 pub mod Parts
 pub mod Stores
+pub mod Drops
