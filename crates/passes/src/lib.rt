@@ -135,7 +135,17 @@ fn row_bounds(
     let n = own_first(priorities, periods, costs, own, &mut ps, &mut cs);
     let coop = kind == 1;
     let length = window as u64;
-    bounds::row_bounds(&ps[..n], &cs[..n], pp, pc, coop, blocking, length, times, room)
+    bounds::row_bounds(
+        &ps[..n],
+        &cs[..n],
+        pp,
+        pc,
+        coop,
+        blocking,
+        length,
+        times,
+        room,
+    )
 }
 
 // The bounds of each row's parts, row by row; pp, pc are the preemptive rows' periods and costs.

@@ -87,7 +87,8 @@ same-length c = c .before .loop .inv .same
 returns : tie.Need-returns Inv-loop μ-loop
 returns c =
     λ rows h. (let l = c .before .loop .inv in
-    filled (windowLength rows) rows _ _ _ (omega (arith, l .few, c .loop-test .left, all-rows _ _ _ _ _ rows h)) (l .is rows h))
+    let all : c .before .loop .i ≡ length rows = omega (arith, l .few, c .loop-test .left, all-rows _ _ _ _ _ rows h) in
+    filled (windowLength rows) rows _ _ _ all (l .is rows h))
 
 pub windows-spec : {M : Type 1} → statement M
 windows-spec =
