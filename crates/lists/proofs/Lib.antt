@@ -11,3 +11,4 @@ pub mod Pads
 pub mod Parts
 pub mod Stores
 pub mod Drops
+pub mod PadStores
