@@ -10,3 +10,5 @@ pub mod EachGood
 pub mod Ahead
 pub mod Laid
 pub mod Seven
+pub mod NoClash
+pub mod GoodCore
