@@ -2,7 +2,7 @@
 use Prim.Native.Nat.{ℕ, _≤_, _<_}
 use native.Mathlib.Omega.{arith}
 use borrow.Author.Tests.{ne-eqb}
-use mathlib.Core.Path.{_≡_, refl, sym, ap, _∙_}
+use mathlib.Core.Path.{_≡_, refl, sym, ap, subst, _∙_}
 use mathlib.Core.Bool.{true, false}
 use mathlib.Core.List.{List, [], _∷_, _++_}
 use lib.ListN.{drop}
@@ -11,6 +11,7 @@ use Rattle.model.specs.Bounds.{rowBounds}
 use Rattle.table.specs.declared.Verdict.{Verdict}
 use Rattle.table.specs.Verdicts.{codeOf}
 use Rattle.passes.specs.Held.{chained}
+use Rattle.analysis.specs.declared.Analysed.{Analysed}
 use Rattle.analysis.specs.Analysis.{needed, boundsOf, coreBounds, writes, answered, roomAfter, Gives}
 
 -- the codes of reading write nothing
@@ -36,3 +37,8 @@ module _ (said v : Verdict) (rows : List Task) (room : List ℕ) (same : said �
       → Gives said rows room (record { verdict = v; count = count }) room′
   unfolding answered roomAfter
   gives-all w count room′ e f = record { answer = rw (same, w, e); left = f ∙ rw (same, w, bounds-chained rows rows) }
+
+-- the same said
+pub gives-same : {v w : Verdict} {rows : List Task} {room room′ : List ℕ} {r : Analysed} → v ≡ w → Gives v rows room r room′
+    → Gives w rows room r room′
+gives-same {rows = rows} {room = room} {room′ = room′} {r = r} e g = subst (λ (x : Verdict). Gives x rows room r room′) e g
