@@ -6,7 +6,6 @@ use mathlib.Core.Path.{_≡_, refl, sym, ap, ap₂, subst, _∙_}
 use mathlib.Core.Bool.{false}
 use mathlib.Core.List.{List}
 use lib.ListN.{length}
-use Rattle.numbers.specs.Numbers.{Bytes}
 use Rattle.lists.proofs.Tests.{never}
 use Rattle.model.specs.Task.{Task}
 use Rattle.model.specs.Bounds.{onCore}
@@ -78,10 +77,10 @@ module _ (s : List ℕ) (core : ℕ) (room : List ℕ) (l : Loaded) (read : l �
       of (go ts n) e = absurd (h (code ∙ ap (λ (y : Loaded). codeOf (y .verdict)) (read ∙ ap loaded e)))
 
   -- a read table: what it says
-  pub as-table : Bytes s → codeOf (l .verdict) ≡ 0 → {r : Analysed} {room′ : List ℕ} → AnalysesTable (l .table) core room r room′
+  pub as-table : codeOf (l .verdict) ≡ 0 → {r : Analysed} {room′ : List ℕ} → AnalysesTable (l .table) core room r room′
       → Analyses s core room r room′
   unfolding readAnswer fileSaid fileRows tableSaid good
-  as-table bytes fine {r = r} {room′ = room′} g = of (decode s) refl
+  as-table fine {r = r} {room′ = room′} g = of (decode s) refl
     where
       of : (x : Step (List Task)) → decode s ≡ x → Gives (fileSaid x core (length room)) (fileRows x core) room r room′
       of (stop v) e =
@@ -89,4 +88,4 @@ module _ (s : List ℕ) (core : ℕ) (room : List ℕ) (l : Loaded) (read : l �
           absurd (never (is-good v (sym (ap codeOf own) ∙ fine)) (stop-fault s v e .0))
       of (go ts n) e =
           let own : l .table ≡ stored ts = ap (λ (y : Loaded). y .table) (read ∙ ap loaded e) in
-          of-tasks ts core room (stored-good ts (file-back s bytes ts n e .good)) (subst (λ (t : Table). AnalysesTable t core room r room′) own g)
+          of-tasks ts core room (stored-good ts (file-back s ts n e .good)) (subst (λ (t : Table). AnalysesTable t core room r room′) own g)

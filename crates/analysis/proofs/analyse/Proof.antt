@@ -27,8 +27,7 @@ returns-2 c =
     let c5 = c2 .before .before .before in
     let c6 = c5 .before in
     let c7 = c6 .before in
-    let c9 = c7 .before .before in
-    as-table _ _ _ _ (c7 .read .ensures) (λ i. omega (arith, c9 .shared-slice-known .given i)) (sym (c6 .code-of .ensures) ∙ c5 .if1 .left)
+    as-table _ _ _ _ (c7 .read .ensures) (sym (c6 .code-of .ensures) ∙ c5 .if1 .left)
     (c2 .analyse-table .ensures)
 
 pub analyse-spec : {M : Type 1} → statement M
