@@ -1,0 +1,46 @@
+-- How far reading a file gets, said without the reader: the numbers before a place all stand there and are what they may be.
+use Prim.Native.Nat.{ℕ, suc, _≤_}
+use mathlib.Core.Path.{_≡_}
+use mathlib.Core.List.{List, [], _∷_, _++_}
+use lib.ListN.{length, replicate}
+use Rattle.numbers.specs.Numbers.{numberAt}
+use Rattle.numbers.specs.declared.Number.the-variants as N
+use Rattle.model.specs.Task.{Task}
+use Rattle.model.specs.Rows.{Within}
+use Rattle.table.specs.Fields.{Wanted, field, head, time, rowFrom}
+use Rattle.table.specs.Memory.{taskOf, allTimes}
+
+-- a number that may stand at a place stands there, and behind it the next begins
+pub record Stands (s : List ℕ) (w : Wanted) (at v next : ℕ) : Type 0 where
+  pub number : numberAt s at ≡ N.Got v next
+  pub range : Within (w .low) (w .high) v
+  pub left : v ≤ w .left
+
+-- of the numbers wanted from one place on, some stand there, one behind the other; the others are wanted at the next place
+pub data Along (s : List ℕ) : List Wanted → ℕ → List ℕ → List Wanted → ℕ → Type 0 where
+  here : {ws : List Wanted} {at : ℕ} → Along s ws at [] ws at
+  more : {w : Wanted} {ws others : List Wanted} {at v next n : ℕ} {vs : List ℕ}
+      → Stands s w at v next → Along s ws next vs others n → Along s (w ∷ ws) at (v ∷ vs) others n
+
+-- the fields wanted of the next row, and its times once these are read
+abbrev pub itsFields : List Task → List Wanted
+itsFields done = head (length (allTimes done))
+
+abbrev pub itsTimes : List ℕ → List Wanted
+itsTimes fields = replicate (rowFrom fields .parts) time
+
+-- the row count and these rows stand in front of a place, and k rows more are wanted there
+pub data Rows (s : List ℕ) : ℕ → List Task → ℕ → Type 0 where
+  none : {count at : ℕ} → Stands s (field 0 64) 0 count at → Rows s count [] at
+  more : {k at m n : ℕ} {done : List Task} {fields times : List ℕ}
+      → Rows s (suc k) done at → Along s (itsFields done) at fields [] m → Along s (itsTimes fields) m times [] n
+      → Rows s k (done ++ (taskOf (rowFrom fields) times ∷ [])) n
+
+-- after the numbers before it, all fine, this number is wanted at a place
+pub data Wants (s : List ℕ) : ℕ → Wanted → Type 0 where
+  count : Wants s 0 (field 0 64)
+  ofFields : {k at m : ℕ} {done : List Task} {fields : List ℕ} {w : Wanted} {ws : List Wanted}
+      → Rows s (suc k) done at → Along s (itsFields done) at fields (w ∷ ws) m → Wants s m w
+  ofTimes : {k at m n : ℕ} {done : List Task} {fields times : List ℕ} {w : Wanted} {ws : List Wanted}
+      → Rows s (suc k) done at → Along s (itsFields done) at fields [] m → Along s (itsTimes fields) m times (w ∷ ws) n
+      → Wants s n w
