@@ -1,0 +1,1 @@
+-- The first row that clashes with an earlier row is the row named. Assumes nothing.
