@@ -3,3 +3,7 @@ pub mod NumberRule
 pub mod ClashRule
 pub mod FileRule
 pub mod CoreRule
+pub mod GoodFile
+pub mod Answer
+pub mod Unique
+pub mod Demand1

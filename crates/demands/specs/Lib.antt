@@ -1,2 +1,4 @@
 pub mod Reached
 pub mod Rules
+pub mod Demand1
+pub mod Unique
