@@ -30,7 +30,7 @@ use Rattle.demands.proofs.GoodFile.{tasks-good}
 -- ---- the verdict
 
 -- the rows of a core of a good file
-core-good : {s : List ℕ} {tasks : List Task} (core : ℕ) → GoodFile s tasks → GoodCore (onCore core tasks)
+pub core-good : {s : List ℕ} {tasks : List Task} (core : ℕ) → GoodFile s tasks → GoodCore (onCore core tasks)
 core-good core g = ?
 
 module _ (s : List ℕ) (core : ℕ) (room : ℕ) where
@@ -73,7 +73,7 @@ file-codes s v = (λ e. subst (FileRule s) e said, only v)
 -- ---- the room
 
 -- a verdict that has code 12
-missed-code : (v : Verdict) → codeOf v ≡ 12 → v ≡ C.Missed (numberOf v)
+pub missed-code : (v : Verdict) → codeOf v ≡ 12 → v ≡ C.Missed (numberOf v)
 missed-code C.Good e = absurd (omega arith)
 missed-code (C.EndsEarly n) e = absurd (omega arith)
 missed-code (C.Malformed n) e = absurd (omega arith)

@@ -7,3 +7,8 @@ pub mod GoodFile
 pub mod Answer
 pub mod Unique
 pub mod Demand1
+pub mod Placed
+pub mod Least
+pub mod Passed
+pub mod Demand2
+pub mod Demand3

@@ -1,4 +1,7 @@
 pub mod Reached
 pub mod Rules
+pub mod Least
 pub mod Demand1
+pub mod Demand2
+pub mod Demand3
 pub mod Unique
