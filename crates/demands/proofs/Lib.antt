@@ -12,3 +12,4 @@ pub mod Least
 pub mod Passed
 pub mod Demand2
 pub mod Demand3
+pub mod Samples
