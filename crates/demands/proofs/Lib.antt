@@ -1,11 +1,12 @@
+pub mod Bytes
 pub mod Reached
 pub mod NumberRule
 pub mod ClashRule
 pub mod FileRule
 pub mod CoreRule
 pub mod GoodFile
-pub mod Answer
 pub mod Unique
+pub mod Answer
 pub mod Demand1
 pub mod Placed
 pub mod Least

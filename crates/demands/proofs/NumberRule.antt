@@ -20,6 +20,7 @@ use Rattle.table.proofs.Fine.{Fine, fine-good}
 use Rattle.files.specs.Reading.{Step, stop, go, unless, asked, fieldAt}
 use Rattle.files.proofs.Taken.{stopped-not}
 use Rattle.demands.specs.Rules.{NumberRule}
+use Rattle.demands.proofs.Bytes.{cut-off, ill-formed}
 use Rattle.demands.proofs.Reached.{stands-read}
 
 -- what is said of a number by its place in the range
@@ -55,8 +56,8 @@ module _ (s : List ℕ) (w : Wanted) (at : ℕ) where
   -- so the rule refuses
   pub rule-refuses : (v : Verdict) → NumberRule s w at v → fieldAt w s at ≡ stop v
   unfolding fieldAt asked
-  rule-refuses (C.EndsEarly n) (e, q) = rw (e, q)
-  rule-refuses (C.Malformed n) (e, q) = rw (e, q)
+  rule-refuses (C.EndsEarly n) (c, q) = rw (cut-off s at .1 c, q)
+  rule-refuses (C.Malformed n) (i, q) = rw (ill-formed s at .1 i, q)
   rule-refuses (C.OutOfRange n) (x, next, e, out, q) =
       got-refused x next (C.OutOfRange n) e (out-judged w at x out ∙ rw q) (unfold good in refl)
   rule-refuses (C.TooManyTimes n) (x, next, e, r, h, q) =
@@ -80,8 +81,8 @@ module _ (s : List ℕ) (w : Wanted) (at : ℕ) where
   refused-rule v e = of-number (numberAt s at) refl
     where
       of-number : (x : Number) → numberAt s at ≡ x → NumberRule s w at v
-      of-number N.EndsEarly q = one-rule (C.EndsEarly (length s)) v (q, refl) e
-      of-number N.Malformed q = one-rule (C.Malformed at) v (q, refl) e
+      of-number N.EndsEarly q = one-rule (C.EndsEarly (length s)) v (cut-off s at .0 q, refl) e
+      of-number N.Malformed q = one-rule (C.Malformed at) v (ill-formed s at .0 q, refl) e
       of-number (N.Got x next) q =
           ⊎-elim
           (λ r.

@@ -1,14 +1,37 @@
 -- How far reading a file gets, said without the reader: the numbers before a place all stand there and are what they may be.
-use Prim.Native.Nat.{ℕ, suc, _≤_}
+use Prim.Native.Nat.{ℕ, suc, _≤_, _<_}
 use mathlib.Core.Path.{_≡_}
+use mathlib.Core.Logic.{_⊎_}
 use mathlib.Core.List.{List, [], _∷_, _++_}
-use lib.ListN.{length, replicate}
+use lib.ListN.{length, getD, replicate}
+use Rattle.lists.specs.Lists.{Place}
 use Rattle.numbers.specs.Numbers.{numberAt}
 use Rattle.numbers.specs.declared.Number.the-variants as N
 use Rattle.model.specs.Task.{Task}
 use Rattle.model.specs.Rows.{Within}
 use Rattle.table.specs.Fields.{Wanted, field, head, time, rowFrom}
 use Rattle.table.specs.Memory.{taskOf, allTimes}
+
+-- so many bytes stand in front and have their high bit set: a number goes on behind them
+abbrev pub GoOn : ℕ → List ℕ → Type 0
+GoOn k bytes = (i : ℕ) → i < k → (i < length bytes) × (128 ≤ getD bytes i 0)
+
+-- the bytes end before a number is complete
+pub record CutOff (bytes : List ℕ) : Type 0 where
+  pub few : length bytes < 4
+  pub goOn : GoOn (length bytes) bytes
+
+-- a number's last byte is zero and not its only one
+pub record ZeroLast (bytes : List ℕ) : Type 0 where
+  pub k : ℕ
+  pub others : 0 < k
+  pub most : k < 4
+  pub goOn : GoOn k bytes
+  pub zero : Place bytes k 0
+
+-- it is longer than four bytes, or its last byte is zero and not its only one
+abbrev pub IllFormed : List ℕ → Type 0
+IllFormed bytes = GoOn 4 bytes ⊎ ZeroLast bytes
 
 -- a number that may stand at a place stands there, and behind it the next begins
 pub record Stands (s : List ℕ) (w : Wanted) (at v next : ℕ) : Type 0 where

@@ -3,7 +3,7 @@ use Prim.Native.Nat.{ℕ, _≤_, _<_}
 use mathlib.Core.Path.{_≡_}
 use mathlib.Core.Logic.{_⊎_}
 use mathlib.Core.List.{List, map}
-use lib.ListN.{length}
+use lib.ListN.{length, drop}
 use Rattle.lists.specs.Lists.{Place}
 use Rattle.numbers.specs.Numbers.{numberAt}
 use Rattle.numbers.specs.declared.Number.the-variants as N
@@ -19,15 +19,15 @@ use Rattle.table.specs.declared.Verdict.the-variants as C
 use Rattle.table.specs.Fields.{Wanted}
 use Rattle.table.specs.Memory.{rowOf}
 use Rattle.analysis.specs.Analysis.{needed}
-use Rattle.demands.specs.Reached.{Rows, Wants}
+use Rattle.demands.specs.Reached.{CutOff, IllFormed, Rows, Wants}
 
 -- ---- 1, 2, 3, 7: the number wanted at a place
 
 abbrev pub NumberRule : List ℕ → Wanted → ℕ → Verdict → Type 0
 -- the input ends before it is complete: file length
-NumberRule s w at (C.EndsEarly n) = (numberAt s at ≡ N.EndsEarly) × (n ≡ length s)
+NumberRule s w at (C.EndsEarly n) = CutOff (drop at s) × (n ≡ length s)
 -- it is longer than four bytes, or its last byte is zero and not its only one: offset of its first byte
-NumberRule s w at (C.Malformed n) = (numberAt s at ≡ N.Malformed) × (n ≡ at)
+NumberRule s w at (C.Malformed n) = IllFormed (drop at s) × (n ≡ at)
 -- it is out of its range: offset of its first byte
 NumberRule s w at (C.OutOfRange n) = (v next : ℕ) × (numberAt s at ≡ N.Got v next) × (Within (w .low) (w .high) v → ⊥) × (n ≡ at)
 -- a part count takes the total above 1,024: offset of that count
