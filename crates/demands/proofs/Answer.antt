@@ -25,13 +25,9 @@ use Rattle.demands.specs.Rules.{FileRule, GoodFile, Enough, CoreRule, An
 use Rattle.demands.specs.Demand1.{Answered, Bounds, Says, Demand1}
 use Rattle.demands.proofs.FileRule.{zero-good, good-read, rule-refused, rule-good, Refused, Read, file-rule}
 use Rattle.demands.proofs.CoreRule.{rule-said, said-rule}
-use Rattle.demands.proofs.GoodFile.{tasks-good}
+use Rattle.demands.proofs.GoodFile.{core-good}
 
 -- ---- the verdict
-
--- the rows of a core of a good file
-pub core-good : {s : List ℕ} {tasks : List Task} (core : ℕ) → GoodFile s tasks → GoodCore (onCore core tasks)
-core-good core g = ?
 
 module _ (s : List ℕ) (core : ℕ) (room : ℕ) where
   -- for a good file the core decides

@@ -22,7 +22,8 @@ use Rattle.demands.specs.Rules.{GoodFile, Enough, AnalysisRule}
 use Rattle.demands.specs.Least.{Meets}
 use Rattle.demands.specs.Demand2.{LeavesBounds, Isolated, Demand2}
 use Rattle.demands.proofs.FileRule.{zero-good, good-read}
-use Rattle.demands.proofs.Answer.{core-good, answer-says}
+use Rattle.demands.proofs.GoodFile.{core-good}
+use Rattle.demands.proofs.Answer.{answer-says}
 use Rattle.demands.proofs.Passed.{core-passes, all-windows, bounds-left}
 use Rattle.demands.proofs.Placed.{bound-placed}
 use Rattle.demands.proofs.Least.{window-is, one-bound, bound-is}

@@ -8,7 +8,7 @@ use Rattle.machine.specs.NoRunIsLater.{NeverLater, NoRunIsLater}
 use Rattle.machine.proofs.NoRunIsLater.{no-run-is-later}
 use Rattle.analysis.specs.Analysis.{needed, coreBounds}
 use Rattle.demands.specs.Demand3.{Demand3}
-use Rattle.demands.proofs.Answer.{core-good}
+use Rattle.demands.proofs.GoodFile.{core-good}
 use Rattle.demands.proofs.Passed.{core-passes, bounds-left}
 use Rattle.demands.proofs.Placed.{bound-placed}
 

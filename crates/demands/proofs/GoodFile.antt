@@ -1,18 +1,23 @@
--- The tasks of a good file are good. From how far reading gets.
+-- The tasks of a good file are good, and so are the rows of each core. From how far reading gets.
 use Prim.Native.Nat.{ℕ, zero, suc, _+_, _≤_}
 use native.Mathlib.Nat.{add-zero, zero-add, add-assoc}
 use native.Mathlib.Omega.{arith}
 use mathlib.Core.Path.{_≡_, refl, sym, ap, _∙_}
 use mathlib.Core.List.{List, [], _∷_, _++_, map}
-use lib.ListN.{length, replicate, length-append, length-replicate}
+use lib.ListN.{length, replicate, length-append, length-replicate, length-map}
+use Rattle.lists.specs.Lists.{padTo}
 use Rattle.model.specs.Task.{Task}
+use Rattle.model.specs.Rows.{GoodCore}
+use Rattle.model.specs.Bounds.{onCore}
 use Rattle.table.specs.declared.Verdict.the-variants as C
 use Rattle.table.specs.Verdicts.{codeOf}
 use Rattle.table.specs.Fields.{Wanted, head, time, rowFrom, fieldsOf}
-use Rattle.table.specs.Memory.{rowOf, taskOf, allTimes}
+use Rattle.table.specs.Memory.{zeroRow, rowOf, taskOf, allTimes, stored, tasksOf}
 use Rattle.table.proofs.Fine.{Fine, AllFine}
 use Rattle.table.proofs.Seven.{all-length, seven}
-use Rattle.table.proofs.GoodTasks.{FineTask, FineTasks, GoodTasks}
+use Rattle.table.proofs.Stored.{tasks-stored}
+use Rattle.table.proofs.GoodTasks.{FineTask, FineTasks, GoodTasks, times-fit, stored-good}
+use Rattle.table.proofs.GoodCore.{good-core}
 use Rattle.demands.specs.Reached.{Stands, Along, Rows, itsFields, itsTimes}
 use Rattle.demands.specs.Rules.{Whole, GoodFile}
 use Rattle.demands.proofs.ClashRule.{rule-clashes}
@@ -50,7 +55,7 @@ rows-fine (Rows.more {done = done} {fields = fields} {times = times} r f t) =
     (fine-snoc 0 done (taskOf (rowFrom fields) times) (i .0) (rw zero-add task), simp length-append (omega (arith, i .1)))
 
 -- the tasks of a good file
-pub tasks-good : {s : List ℕ} {tasks : List Task} → GoodFile s tasks → GoodTasks tasks
+tasks-good : {s : List ℕ} {tasks : List Task} → GoodFile s tasks → GoodTasks tasks
 tasks-good {tasks = tasks} g =
     let r = rows-fine (g .whole .rows) in
     record {
@@ -58,3 +63,15 @@ tasks-good {tasks = tasks} g =
       fine = r .0;
       apart = ap codeOf (rule-clashes (map rowOf tasks) C.Good (g .apart));
     }
+
+-- fill behind a list makes it as long as it says
+padded : {A : Type 0} (fill : A) (n : ℕ) (xs : List A) → length xs ≤ n → length (padTo fill n xs) ≡ n
+padded fill n xs h = rw (length-append, length-replicate) (omega arith)
+
+-- the rows of a core of a good file
+pub core-good : {s : List ℕ} {tasks : List Task} (core : ℕ) → GoodFile s tasks → GoodCore (onCore core tasks)
+core-good {tasks = ts} core file =
+    let g = tasks-good file in
+    let rows = padded zeroRow 64 (map rowOf ts) (rw length-map (g .few)) in
+    let times = padded 0 1024 (allTimes ts) (omega (arith, times-fit 0 ts (omega arith) (g .fine))) in
+    rw (tasks-stored ts) at (good-core (stored ts) rows times (stored-good ts g) core)
