@@ -168,8 +168,10 @@ module _ (s : List ℕ) (core : ℕ) (room : List ℕ) (r : Analysed) (room′ :
   answer-says =
       let e : r .verdict ≡ v = said v _ room r room′ a in
       record {
-        codes = λ u. (λ q. subst (AnalysisRule s core (length room)) (sym e ∙ q) (analysis-rule s core (length room)),
-          λ q. e ∙ rule-analysis s core (length room) u q);
+        codes = λ u. (
+          λ q. subst (AnalysisRule s core (length room)) (sym e ∙ q) (analysis-rule s core (length room)),
+          λ q. e ∙ rule-analysis s core (length room) u q,
+        );
         kept = λ p q. stays v _ room r room′ a (keeps v (λ z. p (ap codeOf e ∙ z)) (λ z. q (ap codeOf e ∙ z)));
         written = λ w. core-written (subst Writes e w);
       }

@@ -43,9 +43,9 @@ above-test : (a b : Row) → (coopAbove a b ≡ true) ↔ CooperativeAbove a b
 unfolding coopAbove
 above-test a b = (
   λ e.
-  (let p = both (eqb (a .kind) 1) (eqb (b .kind) 0 && ltb (b .priority) (a .priority)) e in
-  let q = both (eqb (b .kind) 0) (ltb (b .priority) (a .priority)) (p .1) in
-  record { cooperative = eqb-true _ _ (p .0); preemptive = eqb-true _ _ (q .0); higher = ltb-true _ _ (q .1) }),
+      (let p = both (eqb (a .kind) 1) (eqb (b .kind) 0 && ltb (b .priority) (a .priority)) e in
+      let q = both (eqb (b .kind) 0) (ltb (b .priority) (a .priority)) (p .1) in
+      record { cooperative = eqb-true _ _ (p .0); preemptive = eqb-true _ _ (q .0); higher = ltb-true _ _ (q .1) }),
   λ c. rw (eq-eqb _ _ (c .cooperative), eq-eqb _ _ (c .preemptive), lt-ltb _ _ (c .higher)),
 )
 
@@ -59,13 +59,13 @@ breaks-test R.SamePriority r e = (
 )
 breaks-test R.KindsCrossed r e = (
   λ t.
-  (let p = both (eqb (e .core) (r .core)) (coopAbove r e || coopAbove e r) t in (
-    eqb-true _ _ (p .0),
-    ⊎-elim (λ a. inl (above-test r e .0 a)) (λ a. inr (above-test e r .0 a)) (one-of (coopAbove r e) (coopAbove e r) (p .1)),
-  )),
+      (let p = both (eqb (e .core) (r .core)) (coopAbove r e || coopAbove e r) t in (
+        eqb-true _ _ (p .0),
+        ⊎-elim (λ a. inl (above-test r e .0 a)) (λ a. inr (above-test e r .0 a)) (one-of (coopAbove r e) (coopAbove e r) (p .1)),
+      )),
   λ b.
-  rw (eq-eqb _ _ (b .0))
-  (⊎-elim (λ a. rw (above-test r e .1 a)) (λ a. second (coopAbove r e) (coopAbove e r) (above-test e r .1 a)) (b .1)),
+      rw (eq-eqb _ _ (b .0))
+      (⊎-elim (λ a. rw (above-test r e .1 a)) (λ a. second (coopAbove r e) (coopAbove e r) (above-test e r .1 a)) (b .1)),
 )
 
 -- ---- some earlier element passes a test

@@ -79,9 +79,9 @@ module _ (s : List ℕ) (core : ℕ) (room : List ℕ) (r : Analysed) (room′ :
   passes-exactly e = (
     λ c. passes-meets (onCore core tasks) (core-good core g) (core-passes s core room r room′ a tasks g c),
     λ all.
-    ap codeOf
-    (answer-says s core room r room′ a .codes C.Good .1
-    (AnalysisRule.analysed g (e, meets-passes (onCore core tasks) (core-good core g) all))),
+        ap codeOf
+        (answer-says s core room r room′ a .codes C.Good .1
+        (AnalysisRule.analysed g (e, meets-passes (onCore core tasks) (core-good core g) all))),
   )
 
   -- the core's rows decide

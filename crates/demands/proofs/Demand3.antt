@@ -22,5 +22,5 @@ demand3 s core room r room′ a e tasks g i row l p h =
       bound rows row p,
       rw (bounds-left s core room r room′ a tasks g (inl e) .bounds) (bound-placed rows rows (drop (needed rows) room) i row l p h),
       λ run allowed q t u released late.
-      no-run-is-later rows (core-good core g) row m (w .0) (w .1) run allowed q p t u released h late,
+          no-run-is-later rows (core-good core g) row m (w .0) (w .1) run allowed q p t u released h late,
     )
