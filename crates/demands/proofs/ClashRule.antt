@@ -196,34 +196,32 @@ module _ (rule : Rule) (rows : List Row) where
 
 module _ (rows : List Row) where
   -- what a rule says is said
-  pub rule-clashes : (v : Verdict) → ClashRule rows v → clashOf rows ≡ v
+  pub rule-clashes : {v : Verdict} → ClashRule rows v → clashOf rows ≡ v
   unfolding clashOf _orElse_ good
-  rule-clashes (C.IdTwice n) f = rw (first-named R.SameId rows n f)
-  rule-clashes (C.PriorityTwice n) (a, f) = rw (none-named R.SameId rows a, first-named R.SamePriority rows n f)
-  rule-clashes (C.KindsCrossed n) (a, b, f) =
+  rule-clashes (ClashRule.id {n = n} f) = rw (first-named R.SameId rows n f)
+  rule-clashes (ClashRule.priority {n = n} a f) = rw (none-named R.SameId rows a, first-named R.SamePriority rows n f)
+  rule-clashes (ClashRule.kinds {n = n} a b f) =
       rw (none-named R.SameId rows a, none-named R.SamePriority rows b, first-named R.KindsCrossed rows n f)
-  rule-clashes C.Good (a, b, c) =
+  rule-clashes (ClashRule.none a b c) =
       rw (none-named R.SameId rows a, none-named R.SamePriority rows b, none-named R.KindsCrossed rows c)
-  rule-clashes (C.EndsEarly n) r = absurd r
-  rule-clashes (C.Malformed n) r = absurd r
-  rule-clashes (C.OutOfRange n) r = absurd r
-  rule-clashes (C.TooManyTimes n) r = absurd r
-  rule-clashes (C.Trailing n) r = absurd r
-  rule-clashes (C.NoSuchCore n) r = absurd r
-  rule-clashes (C.NoRoom n) r = absurd r
-  rule-clashes (C.NoWindow n) r = absurd r
-  rule-clashes (C.Missed n) r = absurd r
 
   -- some rule says so
   some-rule : (v : Verdict) × ClashRule rows v
   some-rule =
-      ⊎-elim (λ f. (C.IdTwice _, f))
+      ⊎-elim (λ f. (_, ClashRule.id f))
       (λ a.
-      ⊎-elim (λ f. (C.PriorityTwice _, (a, f)))
-      (λ b. ⊎-elim (λ f. (C.KindsCrossed _, (a, b, f))) (λ c. (C.Good, (a, b, c))) (first-or-none R.KindsCrossed rows))
+      ⊎-elim (λ f. (_, ClashRule.priority a f))
+      (λ b. ⊎-elim (λ f. (_, ClashRule.kinds a b f)) (λ c. (_, ClashRule.none a b c)) (first-or-none R.KindsCrossed rows))
       (first-or-none R.SamePriority rows))
       (first-or-none R.SameId rows)
 
   -- and what is said a rule says
   pub clashes-rule : ClashRule rows (clashOf rows)
-  clashes-rule = let r = some-rule in subst (ClashRule rows) (sym (rule-clashes (r .0) (r .1))) (r .1)
+  clashes-rule = let r = some-rule in subst (ClashRule rows) (sym (rule-clashes (r .1))) (r .1)
+
+  -- these are the codes 4, 5 and 6, or there is no clash
+  pub clash-code : {v : Verdict} → ClashRule rows v → (v ≡ C.Good) ⊎ ((0 < codeOf v) × (codeOf v < 9))
+  clash-code (ClashRule.id f) = inr (omega arith)
+  clash-code (ClashRule.priority a f) = inr (omega arith)
+  clash-code (ClashRule.kinds a b f) = inr (omega arith)
+  clash-code (ClashRule.none a b c) = inl refl

@@ -1,17 +1,19 @@
 -- A core's code is given exactly when its rule says so: 9, 10, 11, 12 and 0. From what a core's verdict says.
 use Prim.Native.Nat.{ℕ, _≤_, _<_}
+use native.Mathlib.Omega.{arith}
 use borrow.Author.Tests.{lt-ltb, le-ltb}
-use mathlib.Core.Path.{_≡_, refl, sym, ap, subst, _∙_}
-use mathlib.Core.Logic.{⊎-elim}
+use mathlib.Core.Path.{_≡_, sym, subst}
+use mathlib.Core.Logic.{_⊎_, inl, inr, ⊎-elim}
 use mathlib.Core.List.{List}
 use Rattle.lists.proofs.Tests.{either}
 use Rattle.model.specs.Task.{Task}
 use Rattle.model.specs.Rows.{Distinct}
 use Rattle.model.specs.Bounds.{CoreVerdict, passes, noWindow, misses, coreVerdict}
-use Rattle.model.specs.Verdict.{Judged}
+use Rattle.model.specs.Verdict.{AllWindows, Passes, Judged}
 use Rattle.model.proofs.Verdict.{verdict-says, judged-same}
 use Rattle.table.specs.declared.Verdict.{Verdict}
 use Rattle.table.specs.declared.Verdict.the-variants as C
+use Rattle.table.specs.Verdicts.{codeOf}
 use Rattle.analysis.specs.Analysis.{needed, named, coreSaid}
 use Rattle.demands.specs.Rules.{Enough, CoreRule}
 
@@ -26,39 +28,54 @@ module _ (core : ℕ) (rows : List Task) (room : ℕ) where
   right d v j = judged-same rows d (coreVerdict rows) v (verdict-says rows) j
 
   -- what a rule says is said
-  pub rule-said : Distinct rows → (v : Verdict) → CoreRule core rows room v → coreSaid core rows room ≡ v
+  pub rule-said : Distinct rows → {v : Verdict} → CoreRule core rows room v → coreSaid core rows room ≡ v
   unfolding coreSaid named
-  rule-said d (C.NoSuchCore n) (h, q) = rw (lt-ltb 3 core h, q)
-  rule-said d (C.NoRoom n) (h, k, q) = rw (le-ltb 3 core h, lt-ltb room (needed rows) k, q)
-  rule-said d (C.NoWindow n) (e, (t, w, q)) = enough-said e (noWindow t) (right d (noWindow t) w) ∙ rw q
-  rule-said d (C.Missed n) (e, (t, m, q)) = enough-said e (misses t) (right d (misses t) m) ∙ rw q
-  rule-said d C.Good (e, p) = enough-said e passes (right d passes p)
-  rule-said d (C.EndsEarly n) r = absurd r
-  rule-said d (C.Malformed n) r = absurd r
-  rule-said d (C.OutOfRange n) r = absurd r
-  rule-said d (C.IdTwice n) r = absurd r
-  rule-said d (C.PriorityTwice n) r = absurd r
-  rule-said d (C.KindsCrossed n) r = absurd r
-  rule-said d (C.TooManyTimes n) r = absurd r
-  rule-said d (C.Trailing n) r = absurd r
+  rule-said d (CoreRule.above h) = rw (lt-ltb 3 core h)
+  rule-said d (CoreRule.short h k) = rw (le-ltb 3 core h, lt-ltb room (needed rows) k)
+  rule-said d (CoreRule.window {t = t} e w) = enough-said e (noWindow t) (right d (noWindow t) w)
+  rule-said d (CoreRule.late {t = t} e m) = enough-said e (misses t) (right d (misses t) m)
+  rule-said d (CoreRule.passes e p) = enough-said e passes (right d passes p)
 
   -- with such a core and room enough some rule holds
   enough-rule : Enough core rows room → (v : CoreVerdict) → Judged rows v → CoreRule core rows room (named v)
   unfolding named
-  enough-rule e passes j = (e, j)
-  enough-rule e (noWindow t) j = (e, (t, j, refl))
-  enough-rule e (misses t) j = (e, (t, j, refl))
+  enough-rule e passes j = CoreRule.passes e j
+  enough-rule e (noWindow t) j = CoreRule.window e j
+  enough-rule e (misses t) j = CoreRule.late e j
 
   -- some rule holds always
   some-rule : (v : Verdict) × CoreRule core rows room v
   some-rule =
-      ⊎-elim (λ h. (C.NoSuchCore core, (h, refl)))
+      ⊎-elim (λ h. (_, CoreRule.above h))
       (λ such.
-      ⊎-elim (λ h. (C.NoRoom (needed rows), (such, h, refl)))
-      (λ fits. (named (coreVerdict rows), enough-rule (record { such = such; fits = fits }) (coreVerdict rows) (verdict-says rows)))
+      ⊎-elim (λ h. (_, CoreRule.short such h))
+      (λ fits. (_, enough-rule (record { such = such; fits = fits }) (coreVerdict rows) (verdict-says rows)))
       (either room (needed rows)))
       (either 3 core)
 
   -- and what is said a rule says
   pub said-rule : Distinct rows → CoreRule core rows room (coreSaid core rows room)
-  said-rule d = let r = some-rule in subst (CoreRule core rows room) (sym (rule-said d (r .0) (r .1))) (r .1)
+  said-rule d = let r = some-rule in subst (CoreRule core rows room) (sym (rule-said d (r .1))) (r .1)
+
+  -- ---- by the code
+
+  -- 0: the core passes
+  pub passes-code : {v : Verdict} → CoreRule core rows room v → codeOf v ≡ 0 → Enough core rows room × Passes rows
+  passes-code (CoreRule.above h) e = absurd (omega arith)
+  passes-code (CoreRule.short h k) e = absurd (omega arith)
+  passes-code (CoreRule.window n w) e = absurd (omega arith)
+  passes-code (CoreRule.late n m) e = absurd (omega arith)
+  passes-code (CoreRule.passes n p) e = (n, p)
+
+  -- 12: every row has a window
+  pub late-code : {v : Verdict} → CoreRule core rows room v → codeOf v ≡ 12 → Enough core rows room × AllWindows rows
+  late-code (CoreRule.above h) e = absurd (omega arith)
+  late-code (CoreRule.short h k) e = absurd (omega arith)
+  late-code (CoreRule.window n w) e = absurd (omega arith)
+  late-code (CoreRule.late n m) e = (n, m .windows)
+  late-code (CoreRule.passes n p) e = absurd (omega arith)
+
+  -- so it is with either
+  pub written-code : {v : Verdict} → CoreRule core rows room v → (codeOf v ≡ 0) ⊎ (codeOf v ≡ 12) → Enough core rows room × AllWindows rows
+  written-code r (inl e) = let c = passes-code r e in (c .0, c .1 .windows)
+  written-code r (inr e) = late-code r e

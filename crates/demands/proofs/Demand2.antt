@@ -18,10 +18,10 @@ use Rattle.files.specs.Reading.{go, decode}
 use Rattle.files.proofs.RoundTrips.{written-is-read, read-is-written}
 use Rattle.analysis.specs.declared.Analysed.{Analysed}
 use Rattle.analysis.specs.Analysis.{needed, coreBounds, coreSaid, Gives, fileSaid, fileRows, Analyses}
-use Rattle.demands.specs.Rules.{GoodFile, Enough, AnalysisRule}
+use Rattle.demands.specs.Rules.{GoodFile, Enough, CoreRule, AnalysisRule}
 use Rattle.demands.specs.Least.{Meets}
 use Rattle.demands.specs.Demand2.{LeavesBounds, Isolated, Demand2}
-use Rattle.demands.proofs.FileRule.{zero-good, good-read}
+use Rattle.demands.proofs.FileRule.{good-read}
 use Rattle.demands.proofs.GoodFile.{core-good}
 use Rattle.demands.proofs.Answer.{answer-says}
 use Rattle.demands.proofs.Passed.{core-passes, all-windows, bounds-left}
@@ -81,7 +81,7 @@ module _ (s : List ℕ) (core : ℕ) (room : List ℕ) (r : Analysed) (room′ :
     λ all.
         ap codeOf
         (answer-says s core room r room′ a .codes C.Good .1
-        (AnalysisRule.analysed g (e, meets-passes (onCore core tasks) (core-good core g) all))),
+        (AnalysisRule.analysed g (CoreRule.passes e (meets-passes (onCore core tasks) (core-good core g) all)))),
   )
 
   -- the core's rows decide

@@ -61,7 +61,7 @@ tasks-good {tasks = tasks} g =
     record {
       few = omega (arith, r .1);
       fine = r .0;
-      apart = ap codeOf (rule-clashes (map rowOf tasks) C.Good (g .apart));
+      apart = ap codeOf (rule-clashes (map rowOf tasks) (g .apart));
     }
 
 -- fill behind a list makes it as long as it says

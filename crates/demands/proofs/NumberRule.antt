@@ -14,7 +14,7 @@ use Rattle.numbers.specs.declared.Number.the-variants as N
 use Rattle.model.specs.Rows.{Within}
 use Rattle.table.specs.declared.Verdict.{Verdict}
 use Rattle.table.specs.declared.Verdict.the-variants as C
-use Rattle.table.specs.Verdicts.{good}
+use Rattle.table.specs.Verdicts.{codeOf, good}
 use Rattle.table.specs.Fields.{Wanted, judge}
 use Rattle.table.proofs.Fine.{Fine, fine-good}
 use Rattle.files.specs.Reading.{Step, stop, go, unless, asked, fieldAt}
@@ -54,40 +54,37 @@ module _ (s : List ℕ) (w : Wanted) (at : ℕ) where
   got-refused x next v e j f = rw (e, j, f)
 
   -- so the rule refuses
-  pub rule-refuses : (v : Verdict) → NumberRule s w at v → fieldAt w s at ≡ stop v
+  pub rule-refuses : {v : Verdict} → NumberRule s w at v → fieldAt w s at ≡ stop v
   unfolding fieldAt asked
-  rule-refuses (C.EndsEarly n) (c, q) = rw (cut-off s at .1 c, q)
-  rule-refuses (C.Malformed n) (i, q) = rw (ill-formed s at .1 i, q)
-  rule-refuses (C.OutOfRange n) (x, next, e, out, q) =
-      got-refused x next (C.OutOfRange n) e (out-judged w at x out ∙ rw q) (unfold good in refl)
-  rule-refuses (C.TooManyTimes n) (x, next, e, r, h, q) =
-      got-refused x next (C.TooManyTimes n) e (over-judged w at x r h ∙ rw q) (unfold good in refl)
-  rule-refuses C.Good r = absurd r
-  rule-refuses (C.IdTwice n) r = absurd r
-  rule-refuses (C.PriorityTwice n) r = absurd r
-  rule-refuses (C.KindsCrossed n) r = absurd r
-  rule-refuses (C.Trailing n) r = absurd r
-  rule-refuses (C.NoSuchCore n) r = absurd r
-  rule-refuses (C.NoRoom n) r = absurd r
-  rule-refuses (C.NoWindow n) r = absurd r
-  rule-refuses (C.Missed n) r = absurd r
+  rule-refuses (NumberRule.cut c) = rw (cut-off s at .1 c)
+  rule-refuses (NumberRule.ill i) = rw (ill-formed s at .1 i)
+  rule-refuses (NumberRule.out {v = x} {next = n} e h) = got-refused x n (C.OutOfRange at) e (out-judged w at x h) (unfold good in refl)
+  rule-refuses (NumberRule.over {v = x} {next = n} e r h) =
+      got-refused x n (C.TooManyTimes at) e (over-judged w at x r h) (unfold good in refl)
 
   -- a refusal by one rule is that rule's
-  one-rule : (u v : Verdict) → NumberRule s w at u → fieldAt w s at ≡ stop v → NumberRule s w at v
-  one-rule u v r e = let e′ = rule-refuses u r in let same : u ≡ v = cc in subst (NumberRule s w at) same r
+  one-rule : {u : Verdict} (v : Verdict) → NumberRule s w at u → fieldAt w s at ≡ stop v → NumberRule s w at v
+  one-rule {u} v r e = let e′ = rule-refuses r in let same : u ≡ v = cc in subst (NumberRule s w at) same r
 
   -- and each refusal is by a rule
   pub refused-rule : (v : Verdict) → fieldAt w s at ≡ stop v → NumberRule s w at v
   refused-rule v e = of-number (numberAt s at) refl
     where
       of-number : (x : Number) → numberAt s at ≡ x → NumberRule s w at v
-      of-number N.EndsEarly q = one-rule (C.EndsEarly (length s)) v (cut-off s at .0 q, refl) e
-      of-number N.Malformed q = one-rule (C.Malformed at) v (ill-formed s at .0 q, refl) e
+      of-number N.EndsEarly q = one-rule v (NumberRule.cut (cut-off s at .0 q)) e
+      of-number N.Malformed q = one-rule v (NumberRule.ill (ill-formed s at .0 q)) e
       of-number (N.Got x next) q =
           ⊎-elim
           (λ r.
-          ⊎-elim (λ over. one-rule (C.TooManyTimes at) v (x, next, q, r, over, refl) e)
+          ⊎-elim (λ over. one-rule v (NumberRule.over q r over) e)
           (λ room. stopped-not (fieldAt w s at) e (stands-read (record { number = q; range = r; left = room })))
           (either (w .left) x))
-          (λ out. one-rule (C.OutOfRange at) v (x, next, q, out, refl) e)
+          (λ out. one-rule v (NumberRule.out q out) e)
           (in-range w x)
+
+  -- these are the codes 1, 2, 3 and 7
+  pub number-code : {v : Verdict} → NumberRule s w at v → (0 < codeOf v) × (codeOf v < 9)
+  number-code (NumberRule.cut c) = omega arith
+  number-code (NumberRule.ill i) = omega arith
+  number-code (NumberRule.out e h) = omega arith
+  number-code (NumberRule.over e r h) = omega arith

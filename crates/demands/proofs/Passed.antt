@@ -15,8 +15,9 @@ use Rattle.analysis.specs.declared.Analysed.{Analysed}
 use Rattle.analysis.specs.Analysis.{Analyses}
 use Rattle.demands.specs.Rules.{GoodFile, CoreRule, AnalysisRule}
 use Rattle.demands.specs.Demand1.{Bounds, Says}
-use Rattle.demands.proofs.FileRule.{zero-good, good-read, rule-refused}
-use Rattle.demands.proofs.Answer.{missed-code, answer-says}
+use Rattle.demands.proofs.FileRule.{good-read, by-rule}
+use Rattle.demands.proofs.CoreRule.{passes-code, written-code}
+use Rattle.demands.proofs.Answer.{answer-says}
 
 -- a good file has one list of tasks
 same-tasks : {s : List ℕ} {tasks others : List Task} → GoodFile s tasks → GoodFile s others → tasks ≡ others
@@ -29,22 +30,18 @@ module _ (s : List ℕ) (core : ℕ) (room : List ℕ) (r : Analysed) (room′ :
   core-rule = of-rule (answer-says s core room r room′ a .codes (r .verdict) .0 refl)
     where
       of-rule : {v : Verdict} → AnalysisRule s core (length room) v → CoreRule core (onCore core tasks) (length room) v
-      of-rule (AnalysisRule.reading f n) = stopped-not (decode s) (rule-refused f n) (good-read g)
+      of-rule (AnalysisRule.reading f n) =
+          ⊎-elim (λ x. absurd (n (x .0))) (λ x. stopped-not (decode s) (x .said) (good-read g)) (by-rule f)
       of-rule {v} (AnalysisRule.analysed h c) =
           subst (λ (ts : List Task). CoreRule core (onCore core ts) (length room) v) (same-tasks h g) c
 
   -- with code 0 the core passes
   pub core-passes : codeOf (r .verdict) ≡ 0 → Passes (onCore core tasks)
-  core-passes e =
-      let c = subst (CoreRule core (onCore core tasks) (length room)) (zero-good (r .verdict) e) core-rule in
-      c .1
+  core-passes e = passes-code core (onCore core tasks) (length room) core-rule e .1
 
   -- with 0 or 12 every row has a window
   pub all-windows : (codeOf (r .verdict) ≡ 0) ⊎ (codeOf (r .verdict) ≡ 12) → AllWindows (onCore core tasks)
-  all-windows (inl e) = core-passes e .windows
-  all-windows (inr e) =
-      let c = subst (CoreRule core (onCore core tasks) (length room)) (missed-code (r .verdict) e) core-rule in
-      c .1 .1 .windows
+  all-windows w = written-code core (onCore core tasks) (length room) core-rule w .1
 
   -- and its bounds are written
   pub bounds-left : (codeOf (r .verdict) ≡ 0) ⊎ (codeOf (r .verdict) ≡ 12) → Bounds (onCore core tasks) room r room′

@@ -23,25 +23,16 @@ use Rattle.demands.specs.Reached.{CutOff, IllFormed, Rows, Wants}
 
 -- ---- 1, 2, 3, 7: the number wanted at a place
 
-abbrev pub NumberRule : List ℕ → Wanted → ℕ → Verdict → Type 0
--- the input ends before it is complete: file length
-NumberRule s w at (C.EndsEarly n) = CutOff (drop at s) × (n ≡ length s)
--- it is longer than four bytes, or its last byte is zero and not its only one: offset of its first byte
-NumberRule s w at (C.Malformed n) = IllFormed (drop at s) × (n ≡ at)
--- it is out of its range: offset of its first byte
-NumberRule s w at (C.OutOfRange n) = (v next : ℕ) × (numberAt s at ≡ N.Got v next) × (Within (w .low) (w .high) v → ⊥) × (n ≡ at)
--- a part count takes the total above 1,024: offset of that count
-NumberRule s w at (C.TooManyTimes n) =
-    (v next : ℕ) × (numberAt s at ≡ N.Got v next) × Within (w .low) (w .high) v × (w .left < v) × (n ≡ at)
-NumberRule s w at C.Good = ⊥
-NumberRule s w at (C.IdTwice n) = ⊥
-NumberRule s w at (C.PriorityTwice n) = ⊥
-NumberRule s w at (C.KindsCrossed n) = ⊥
-NumberRule s w at (C.Trailing n) = ⊥
-NumberRule s w at (C.NoSuchCore n) = ⊥
-NumberRule s w at (C.NoRoom n) = ⊥
-NumberRule s w at (C.NoWindow n) = ⊥
-NumberRule s w at (C.Missed n) = ⊥
+pub data NumberRule (s : List ℕ) (w : Wanted) (at : ℕ) : Verdict → Type 0 where
+  -- the input ends before it is complete: file length
+  cut : CutOff (drop at s) → NumberRule s w at (C.EndsEarly (length s))
+  -- it is longer than four bytes, or its last byte is zero and not its only one: offset of its first byte
+  ill : IllFormed (drop at s) → NumberRule s w at (C.Malformed at)
+  -- it is out of its range: offset of its first byte
+  out : {v next : ℕ} → numberAt s at ≡ N.Got v next → (Within (w .low) (w .high) v → ⊥) → NumberRule s w at (C.OutOfRange at)
+  -- a part count takes the total above 1,024: offset of that count
+  over : {v next : ℕ} → numberAt s at ≡ N.Got v next → Within (w .low) (w .high) v → w .left < v
+      → NumberRule s w at (C.TooManyTimes at)
 
 -- ---- 4, 5, 6: the first row that clashes with an earlier row
 
@@ -80,20 +71,11 @@ abbrev pub None : Rule → List Row → Type 0
 None rule rows = (i : ℕ) → Clashes rule rows i → ⊥
 
 -- 4 over the whole table, then 5, then 6: the row, from 0
-abbrev pub ClashRule : List Row → Verdict → Type 0
-ClashRule rows (C.IdTwice n) = First R.SameId rows n
-ClashRule rows (C.PriorityTwice n) = None R.SameId rows × First R.SamePriority rows n
-ClashRule rows (C.KindsCrossed n) = None R.SameId rows × None R.SamePriority rows × First R.KindsCrossed rows n
-ClashRule rows C.Good = None R.SameId rows × None R.SamePriority rows × None R.KindsCrossed rows
-ClashRule rows (C.EndsEarly n) = ⊥
-ClashRule rows (C.Malformed n) = ⊥
-ClashRule rows (C.OutOfRange n) = ⊥
-ClashRule rows (C.TooManyTimes n) = ⊥
-ClashRule rows (C.Trailing n) = ⊥
-ClashRule rows (C.NoSuchCore n) = ⊥
-ClashRule rows (C.NoRoom n) = ⊥
-ClashRule rows (C.NoWindow n) = ⊥
-ClashRule rows (C.Missed n) = ⊥
+pub data ClashRule (rows : List Row) : Verdict → Type 0 where
+  id : {n : ℕ} → First R.SameId rows n → ClashRule rows (C.IdTwice n)
+  priority : {n : ℕ} → None R.SameId rows → First R.SamePriority rows n → ClashRule rows (C.PriorityTwice n)
+  kinds : {n : ℕ} → None R.SameId rows → None R.SamePriority rows → First R.KindsCrossed rows n → ClashRule rows (C.KindsCrossed n)
+  none : None R.SameId rows → None R.SamePriority rows → None R.KindsCrossed rows → ClashRule rows C.Good
 
 -- ---- the codes of a file: the first of 1, 2, 3, 7 in file order; then 8; then 4, 5, 6
 
@@ -121,25 +103,17 @@ pub record Enough (core : ℕ) (rows : List Task) (room : ℕ) : Type 0 where
   pub such : core ≤ 3
   pub fits : needed rows ≤ room
 
-abbrev pub CoreRule : ℕ → List Task → ℕ → Verdict → Type 0
--- core asked for above 3: that core
-CoreRule core rows room (C.NoSuchCore n) = (3 < core) × (n ≡ core)
--- room too short: elements needed
-CoreRule core rows room (C.NoRoom n) = (core ≤ 3) × (room < needed rows) × (n ≡ needed rows)
--- a window has no length up to the limit: task id of the highest
-CoreRule core rows room (C.NoWindow n) = Enough core rows room × ((t : Task) × NoWindow rows t × (n ≡ t .id))
--- a deadline is missed: task id of the highest
-CoreRule core rows room (C.Missed n) = Enough core rows room × ((t : Task) × Misses rows t × (n ≡ t .id))
--- every row has a window up to the limit, and its last bound is within its deadline
-CoreRule core rows room C.Good = Enough core rows room × Passes rows
-CoreRule core rows room (C.EndsEarly n) = ⊥
-CoreRule core rows room (C.Malformed n) = ⊥
-CoreRule core rows room (C.OutOfRange n) = ⊥
-CoreRule core rows room (C.IdTwice n) = ⊥
-CoreRule core rows room (C.PriorityTwice n) = ⊥
-CoreRule core rows room (C.KindsCrossed n) = ⊥
-CoreRule core rows room (C.TooManyTimes n) = ⊥
-CoreRule core rows room (C.Trailing n) = ⊥
+pub data CoreRule (core : ℕ) (rows : List Task) (room : ℕ) : Verdict → Type 0 where
+  -- core asked for above 3: that core
+  above : 3 < core → CoreRule core rows room (C.NoSuchCore core)
+  -- room too short: elements needed
+  short : core ≤ 3 → room < needed rows → CoreRule core rows room (C.NoRoom (needed rows))
+  -- a window has no length up to the limit: id of the highest such task
+  window : {t : Task} → Enough core rows room → NoWindow rows t → CoreRule core rows room (C.NoWindow (t .id))
+  -- a deadline is missed: id of the highest such task
+  late : {t : Task} → Enough core rows room → Misses rows t → CoreRule core rows room (C.Missed (t .id))
+  -- good: every row has a window up to the limit, and its last bound is within its deadline
+  passes : Enough core rows room → Passes rows → CoreRule core rows room C.Good
 
 -- an analysis: the reading codes, and for a good file those of the core
 pub data AnalysisRule (s : List ℕ) (core room : ℕ) : Verdict → Type 0 where
