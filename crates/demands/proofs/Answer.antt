@@ -1,26 +1,23 @@
 -- An analysis says and leaves what demand 1 asks for. From the rules of files and of cores.
-use Prim.Native.Nat.{ℕ, _+_, _≤_, _<_}
+use Prim.Native.Nat.{ℕ, _+_, _≤_}
 use native.Mathlib.Omega.{arith}
 use borrow.Author.Tests.{eq-eqb, ne-eqb}
 use mathlib.Core.Path.{_≡_, refl, sym, ap, subst, _∙_}
 use mathlib.Core.Logic.{_⊎_, inl, inr, ⊎-elim, _↔_}
-use mathlib.Core.Bool.{Bool, true, false, _||_}
+use mathlib.Core.Bool.{true, false}
 use mathlib.Core.List.{List, [], _∷_, _++_}
 use lib.ListN.{length, drop, length-append, length-drop}
-use lib.Dec.{eqb}
 use Rattle.lists.specs.Lists.{total}
 use Rattle.lists.proofs.Listed.{listed-length}
 use Rattle.model.specs.Task.{Task, parts}
-use Rattle.model.specs.Rows.{Distinct, GoodCore}
 use Rattle.model.specs.Bounds.{onCore, rowBounds, bound}
 use Rattle.table.specs.declared.Verdict.{Verdict}
-use Rattle.table.specs.declared.Verdict.the-variants as C
 use Rattle.table.specs.Verdicts.{codeOf}
-use Rattle.files.specs.Reading.{Step, stop, go, decode, loaded, readAnswer}
+use Rattle.files.specs.Reading.{decode, readAnswer}
 use Rattle.analysis.specs.declared.Analysed.{Analysed}
 use Rattle.analysis.specs.Analysis.{needed, boundsOf, coreBounds, coreSaid, writes, answered, roomAfter, Gives, fileSaid, fileRows, Analyses}
-use Rattle.demands.specs.Rules.{FileRule, GoodFile, Enough, CoreRule, AnalysisRule}
-use Rattle.demands.specs.Demand1.{Answered, Bounds, Says, Demand1}
+use Rattle.demands.specs.Rules.{FileRule, GoodFile, AnalysisRule}
+use Rattle.demands.specs.Demand1.{Bounds, Says}
 use Rattle.demands.proofs.FileRule.{ReadingCode, reading-fault, good-read, by-rule, file-rule}
 use Rattle.demands.proofs.CoreRule.{rule-said, said-rule, written-code}
 use Rattle.demands.proofs.GoodFile.{core-good}

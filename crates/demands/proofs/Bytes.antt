@@ -1,14 +1,14 @@
 -- What the bytes at a place say of the number there: it is cut off, or malformed, exactly as the rules of 1 and 2 say. Assumes nothing.
-use Prim.Native.Nat.{ℕ, zero, suc, _-_, _≤_, _<_}
+use Prim.Native.Nat.{ℕ, zero, suc, _≤_, _<_}
 use native.Mathlib.Omega.{arith}
 use borrow.Author.Tests.{ltb-true, ltb-false}
 use mathlib.Core.Path.{_≡_, refl, sym, ap, _∙_}
 use mathlib.Core.Logic.{_⊎_, inl, inr, ⊎-elim, _↔_}
 use mathlib.Core.Bool.{Bool, true, false}
 use mathlib.Core.List.{List, [], _∷_}
-use lib.ListN.{length, drop, getD}
+use lib.ListN.{length, drop}
 use lib.Dec.{ltb}
-use Rattle.lists.specs.Lists.{pick, Place}
+use Rattle.lists.specs.Lists.{Place}
 use Rattle.lists.proofs.Tests.{by-test, never}
 use Rattle.numbers.specs.Numbers.{after, last, groups, numberAt}
 use Rattle.numbers.specs.declared.Number.{Number}

@@ -1,5 +1,5 @@
 -- The first row that clashes with an earlier row is the row named. Assumes nothing.
-use Prim.Native.Nat.{ℕ, zero, suc, _+_, _≤_, _<_}
+use Prim.Native.Nat.{ℕ, zero, suc, _≤_, _<_}
 use native.Mathlib.Omega.{arith}
 use native.Mathlib.Nat.{le-antisymm}
 use borrow.Author.Tests.{eqb-true, eq-eqb, ltb-true, lt-ltb, le-ltb}
@@ -9,7 +9,7 @@ use mathlib.Core.Bool.{Bool, true, false, _&&_, _||_}
 use mathlib.Core.List.{List, [], _∷_, _++_, append-assoc, append-nil}
 use lib.ListN.{length, take}
 use lib.Dec.{eqb, ltb}
-use Rattle.lists.specs.Lists.{pick, any, Place}
+use Rattle.lists.specs.Lists.{any, Place}
 use Rattle.lists.proofs.Tests.{by-test, never, either, not-below}
 use Rattle.lists.proofs.Places.{place-below, place-some}
 use Rattle.table.specs.declared.Row.{Row}

@@ -1,5 +1,5 @@
 -- A core's code is given exactly when its rule says so: 9, 10, 11, 12 and 0. From what a core's verdict says.
-use Prim.Native.Nat.{ℕ, _≤_, _<_}
+use Prim.Native.Nat.{ℕ}
 use native.Mathlib.Omega.{arith}
 use borrow.Author.Tests.{lt-ltb, le-ltb}
 use mathlib.Core.Path.{_≡_, sym, subst}
@@ -12,7 +12,6 @@ use Rattle.model.specs.Bounds.{CoreVerdict, passes, noWindow, misses, coreVerdi
 use Rattle.model.specs.Verdict.{AllWindows, Passes, Judged}
 use Rattle.model.proofs.Verdict.{verdict-says, judged-same}
 use Rattle.table.specs.declared.Verdict.{Verdict}
-use Rattle.table.specs.declared.Verdict.the-variants as C
 use Rattle.table.specs.Verdicts.{codeOf}
 use Rattle.analysis.specs.Analysis.{needed, named, coreSaid}
 use Rattle.demands.specs.Rules.{Enough, CoreRule}

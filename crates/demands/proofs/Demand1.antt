@@ -4,7 +4,7 @@ use mathlib.Core.Path.{refl}
 use mathlib.Core.List.{List}
 use lib.ListN.{length}
 use Rattle.files.specs.Reading.{decode}
-use Rattle.analysis.specs.Analysis.{answered, roomAfter, Gives, fileSaid, fileRows, Analyses}
+use Rattle.analysis.specs.Analysis.{answered, roomAfter, Gives, fileSaid, fileRows}
 use Rattle.demands.specs.Demand1.{Answered, Demand1}
 use Rattle.demands.proofs.Answer.{answer-says, file-codes}
 use Rattle.demands.proofs.Unique.{gives-one}

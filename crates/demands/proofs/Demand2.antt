@@ -1,11 +1,11 @@
 -- Demand 2 holds. From demand 1, the laws of the equations and the round trips of files.
 use Prim.Native.Nat.{ℕ, _-_, _≤_, _<_}
 use native.Mathlib.Omega.{arith}
-use mathlib.Core.Path.{_≡_, refl, sym, ap, _∙_}
-use mathlib.Core.Logic.{_⊎_, inl, inr, _↔_}
-use mathlib.Core.List.{List, _++_}
+use mathlib.Core.Path.{_≡_, ap}
+use mathlib.Core.Logic.{_⊎_, _↔_}
+use mathlib.Core.List.{List}
 use lib.ListN.{length, drop}
-use Rattle.lists.specs.Lists.{_∈_, Place}
+use Rattle.lists.specs.Lists.{_∈_}
 use Rattle.lists.proofs.Places.{place-in}
 use Rattle.model.specs.declared.Found.the-variants.{At}
 use Rattle.model.specs.Task.{Task, parts}
@@ -14,10 +14,9 @@ use Rattle.model.specs.Bounds.{onCore, window, bound}
 use Rattle.model.specs.Verdict.{lastBound, Passes}
 use Rattle.table.specs.declared.Verdict.the-variants as C
 use Rattle.table.specs.Verdicts.{codeOf}
-use Rattle.files.specs.Reading.{go, decode}
 use Rattle.files.proofs.RoundTrips.{written-is-read, read-is-written}
 use Rattle.analysis.specs.declared.Analysed.{Analysed}
-use Rattle.analysis.specs.Analysis.{needed, coreBounds, coreSaid, Gives, fileSaid, fileRows, Analyses}
+use Rattle.analysis.specs.Analysis.{needed, coreSaid, Gives, fileSaid, fileRows, Analyses}
 use Rattle.demands.specs.Rules.{GoodFile, Enough, CoreRule, AnalysisRule}
 use Rattle.demands.specs.Least.{Meets}
 use Rattle.demands.specs.Demand2.{LeavesBounds, Isolated, Demand2}

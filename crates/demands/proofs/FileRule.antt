@@ -1,5 +1,5 @@
 -- A file is refused exactly when a rule of reading says so, and else its tasks are read. Assumes nothing.
-use Prim.Native.Nat.{ℕ, _≤_, _<_}
+use Prim.Native.Nat.{ℕ, _<_}
 use native.Mathlib.Omega.{arith}
 use borrow.Author.Tests.{lt-ltb, le-ltb}
 use mathlib.Core.Path.{_≡_, ap, subst, _∙_}
@@ -14,7 +14,7 @@ use Rattle.table.specs.Verdicts.{codeOf, good}
 use Rattle.table.specs.Fields.{Wanted}
 use Rattle.table.specs.Memory.{rowOf}
 use Rattle.table.proofs.Codes.{is-fault}
-use Rattle.files.specs.Reading.{Step, stop, go, _then_, unless, rowsAt, endAt, decode}
+use Rattle.files.specs.Reading.{stop, go, _then_, unless, rowsAt, endAt, decode}
 use Rattle.demands.specs.Reached.{Rows, Wants}
 use Rattle.demands.specs.Rules.{NumberRule, ClashRule, FileRule, Whole, GoodFile}
 use Rattle.demands.proofs.Reached.{rows-read, wants-read, reached}

@@ -1,25 +1,24 @@
 -- The tasks of a good file are good, and so are the rows of each core. From how far reading gets.
-use Prim.Native.Nat.{ℕ, zero, suc, _+_, _≤_}
+use Prim.Native.Nat.{ℕ, _+_, _≤_}
 use native.Mathlib.Nat.{add-zero, zero-add, add-assoc}
 use native.Mathlib.Omega.{arith}
-use mathlib.Core.Path.{_≡_, refl, sym, ap, _∙_}
+use mathlib.Core.Path.{_≡_, refl, ap, _∙_}
 use mathlib.Core.List.{List, [], _∷_, _++_, map}
-use lib.ListN.{length, replicate, length-append, length-replicate, length-map}
+use lib.ListN.{length, length-append, length-replicate, length-map}
 use Rattle.lists.specs.Lists.{padTo}
 use Rattle.model.specs.Task.{Task}
 use Rattle.model.specs.Rows.{GoodCore}
 use Rattle.model.specs.Bounds.{onCore}
-use Rattle.table.specs.declared.Verdict.the-variants as C
 use Rattle.table.specs.Verdicts.{codeOf}
 use Rattle.table.specs.Fields.{Wanted, head, time, rowFrom, fieldsOf}
-use Rattle.table.specs.Memory.{zeroRow, rowOf, taskOf, allTimes, stored, tasksOf}
-use Rattle.table.proofs.Fine.{Fine, AllFine}
+use Rattle.table.specs.Memory.{zeroRow, rowOf, taskOf, allTimes, stored}
+use Rattle.table.proofs.Fine.{AllFine}
 use Rattle.table.proofs.Seven.{all-length, seven}
 use Rattle.table.proofs.Stored.{tasks-stored}
 use Rattle.table.proofs.GoodTasks.{FineTask, FineTasks, GoodTasks, times-fit, stored-good}
 use Rattle.table.proofs.GoodCore.{good-core}
-use Rattle.demands.specs.Reached.{Stands, Along, Rows, itsFields, itsTimes}
-use Rattle.demands.specs.Rules.{Whole, GoodFile}
+use Rattle.demands.specs.Reached.{Along, Rows, itsTimes}
+use Rattle.demands.specs.Rules.{GoodFile}
 use Rattle.demands.proofs.ClashRule.{rule-clashes}
 
 module _ {s : List ℕ} where

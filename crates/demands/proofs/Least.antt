@@ -2,25 +2,24 @@
 use Prim.Native.Nat.{ℕ, zero, suc, _+_, _-_, _*_, _≤_, _<_}
 use native.Mathlib.Nat.{le-antisymm}
 use native.Mathlib.Omega.{arith}
-use mathlib.Core.Path.{_≡_, refl, sym, ap, subst, _∙_}
-use mathlib.Core.Logic.{_⊎_, inl, inr, ⊎-elim, _↔_}
-use mathlib.Core.Bool.{Bool, true, false}
+use mathlib.Core.Path.{_≡_, sym, ap, subst, _∙_}
+use mathlib.Core.Logic.{⊎-elim, _↔_}
+use mathlib.Core.Bool.{true}
 use mathlib.Core.List.{List}
 use Rattle.lists.specs.Lists.{_∈_}
 use Rattle.lists.proofs.Tests.{by-test, either}
-use Rattle.model.specs.declared.Found.{Found}
-use Rattle.model.specs.declared.Found.the-variants.{At, Nothing}
+use Rattle.model.specs.declared.Found.the-variants.{At}
 use Rattle.model.specs.Task.{Task, part, parts}
 use Rattle.model.specs.Rows.{GoodTask, GoodCore}
 use Rattle.model.specs.Least.{IsLeast, value, maxBelow}
 use Rattle.model.specs.Bounds.{limit, cooperative, preemptive, before, through, demand, window, jobs}
-use Rattle.model.specs.Bounds.{preemptiveEnd, start, endFrom, finish, response, bound}
+use Rattle.model.specs.Bounds.{preemptiveEnd, start, endFrom, response, bound}
 use Rattle.model.proofs.Least.{least-at, least-is, says-same}
-use Rattle.model.proofs.Exists.{the-window, finish-range, preemptive-range, cooperative-range, finish-cooperative, finish-preemptive}
+use Rattle.model.proofs.Exists.{the-window, finish-range, cooperative-range, finish-cooperative, finish-preemptive}
 use Rattle.model.proofs.Responses.{response-at}
 use Rattle.model.proofs.Rounding.{before-pos}
 use Rattle.model.proofs.Rows.{period-pos, is-cooperative, is-preemptive, other-kind}
-use Rattle.demands.specs.Least.{windowSide, IsWindow, endSide, startSide, endFromSide, EndsAt, IsBound, Meets}
+use Rattle.demands.specs.Least.{IsWindow, endSide, endFromSide, EndsAt, IsBound}
 
 -- two least solutions are the same
 one-least : (g : ℕ → ℕ) (from limit x y : ℕ) → IsLeast g from limit x → IsLeast g from limit y → x ≡ y

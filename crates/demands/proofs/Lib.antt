@@ -14,3 +14,4 @@ pub mod Passed
 pub mod Demand2
 pub mod Demand3
 pub mod Samples
+pub mod Demands

@@ -1,12 +1,11 @@
 -- A wanted number is refused exactly when the rules of 1, 2, 3 and 7 say so. Assumes nothing.
-use Prim.Native.Nat.{ℕ, _≤_, _<_}
+use Prim.Native.Nat.{ℕ, _<_}
 use native.Mathlib.Omega.{arith}
 use borrow.Author.Tests.{lt-ltb, le-ltb}
-use mathlib.Core.Path.{_≡_, refl, sym, ap, subst, _∙_}
-use mathlib.Core.Logic.{_⊎_, inl, inr, ⊎-elim, _↔_}
-use mathlib.Core.Bool.{Bool, false}
+use mathlib.Core.Path.{_≡_, refl, subst}
+use mathlib.Core.Logic.{_⊎_, inl, inr, ⊎-elim}
+use mathlib.Core.Bool.{false}
 use mathlib.Core.List.{List}
-use lib.ListN.{length}
 use Rattle.lists.proofs.Tests.{either}
 use Rattle.numbers.specs.Numbers.{numberAt}
 use Rattle.numbers.specs.declared.Number.{Number}
@@ -16,8 +15,7 @@ use Rattle.table.specs.declared.Verdict.{Verdict}
 use Rattle.table.specs.declared.Verdict.the-variants as C
 use Rattle.table.specs.Verdicts.{codeOf, good}
 use Rattle.table.specs.Fields.{Wanted, judge}
-use Rattle.table.proofs.Fine.{Fine, fine-good}
-use Rattle.files.specs.Reading.{Step, stop, go, unless, asked, fieldAt}
+use Rattle.files.specs.Reading.{stop, unless, asked, fieldAt}
 use Rattle.files.proofs.Taken.{stopped-not}
 use Rattle.demands.specs.Rules.{NumberRule}
 use Rattle.demands.proofs.Bytes.{cut-off, ill-formed}

@@ -1,7 +1,7 @@
 -- What an answer says of the rows of a core of a good file. From demand 1.
 use Prim.Native.Nat.{ℕ}
 use mathlib.Core.Path.{_≡_, refl, subst}
-use mathlib.Core.Logic.{_⊎_, inl, inr, ⊎-elim}
+use mathlib.Core.Logic.{_⊎_, ⊎-elim}
 use mathlib.Core.List.{List}
 use lib.ListN.{length}
 use Rattle.model.specs.Task.{Task}
@@ -9,12 +9,12 @@ use Rattle.model.specs.Bounds.{onCore}
 use Rattle.model.specs.Verdict.{AllWindows, Passes}
 use Rattle.table.specs.declared.Verdict.{Verdict}
 use Rattle.table.specs.Verdicts.{codeOf}
-use Rattle.files.specs.Reading.{stop, go, decode}
+use Rattle.files.specs.Reading.{decode}
 use Rattle.files.proofs.Taken.{stopped-not}
 use Rattle.analysis.specs.declared.Analysed.{Analysed}
 use Rattle.analysis.specs.Analysis.{Analyses}
 use Rattle.demands.specs.Rules.{GoodFile, CoreRule, AnalysisRule}
-use Rattle.demands.specs.Demand1.{Bounds, Says}
+use Rattle.demands.specs.Demand1.{Bounds}
 use Rattle.demands.proofs.FileRule.{good-read, by-rule}
 use Rattle.demands.proofs.CoreRule.{passes-code, written-code}
 use Rattle.demands.proofs.Answer.{answer-says}

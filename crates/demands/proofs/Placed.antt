@@ -2,9 +2,9 @@
 use Prim.Native.Nat.{ℕ, zero, suc, _+_, _<_}
 use native.Mathlib.Nat.{zero-add, suc-add, add-assoc}
 use native.Mathlib.Omega.{arith}
-use mathlib.Core.Path.{_≡_, refl, sym, ap, _∙_}
+use mathlib.Core.Path.{refl}
 use mathlib.Core.List.{List, [], _∷_, _++_, append-assoc}
-use lib.ListN.{length, take}
+use lib.ListN.{length}
 use Rattle.lists.specs.Lists.{total, listed, Place}
 use Rattle.lists.proofs.Listed.{listed-length}
 use Rattle.model.specs.Task.{Task, parts}

@@ -1,16 +1,12 @@
 -- How far reading gets, said without the reader, is how far the reader gets. Assumes nothing.
-use Prim.Native.Nat.{ℕ, zero, suc, _≤_, _<_}
+use Prim.Native.Nat.{ℕ, zero, suc}
 use mathlib.Core.Path.{_≡_, refl, sym, ap, _∙_}
 use mathlib.Core.Logic.{_⊎_, inl, inr, ⊎-elim}
 use mathlib.Core.List.{List, [], _∷_, _++_, append-assoc, append-nil}
-use lib.ListN.{length, replicate}
-use Rattle.numbers.specs.Numbers.{numberAt}
-use Rattle.numbers.specs.declared.Number.the-variants as N
 use Rattle.model.specs.Task.{Task}
 use Rattle.table.specs.declared.Verdict.{Verdict}
 use Rattle.table.specs.Verdicts.{good}
-use Rattle.table.specs.Fields.{Wanted, field, head, time, rowFrom, judge}
-use Rattle.table.specs.Memory.{taskOf, allTimes}
+use Rattle.table.specs.Fields.{Wanted, field}
 use Rattle.table.proofs.Fine.{Fine, fine-good}
 use Rattle.files.specs.Reading.{Step, stop, go, _then_, unless, asked, fieldAt, fieldsAt, rowAt, rowsAt, endAt, decode}
 use Rattle.files.proofs.Taken.{field-read}

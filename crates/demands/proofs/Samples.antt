@@ -1,19 +1,19 @@
 -- The samples hold. What stands on bytes computes; the bounds are cited.
 use Prim.Native.Nat.{ℕ}
-use mathlib.Core.Path.{_≡_, refl, _∙_}
-use mathlib.Core.List.{List, [], _∷_}
+use mathlib.Core.Path.{_≡_, refl}
+use mathlib.Core.List.{[], _∷_}
 use Rattle.lists.specs.Lists.{any, keep, total, listed}
 use Rattle.numbers.specs.Numbers.{groups, numberAt}
 use Rattle.model.specs.Task.{parts}
-use Rattle.model.specs.Bounds.{onCore, rowBounds, coreVerdict}
-use Rattle.model.specs.Samples.{setA, one, full}
+use Rattle.model.specs.Bounds.{onCore, rowBounds}
+use Rattle.model.specs.Samples.{setA}
 use Rattle.model.proofs.Samples as Model
 use Rattle.table.specs.declared.Verdict.the-variants as C
 use Rattle.table.specs.Verdicts.{good, _orElse_}
 use Rattle.table.specs.Fields.{head, judge}
 use Rattle.table.specs.Memory.{allTimes}
 use Rattle.table.specs.Clash.{coopAbove, breaks, clashAfter, broken, clashOf}
-use Rattle.files.specs.Reading.{stop, go, _then_, unless, asked, fieldAt, fieldsAt, rowAt, rowsAt, endAt, decode}
+use Rattle.files.specs.Reading.{go, _then_, unless, asked, fieldAt, fieldsAt, rowAt, rowsAt, endAt, decode}
 use Rattle.analysis.specs.Analysis.{needed, boundsOf, named, coreSaid, writes, answered, roomAfter, fileSaid, fileRows, Analyses}
 use Rattle.demands.specs.Samples.{bytesA, Samples}
 

@@ -4,7 +4,6 @@ use mathlib.Core.Path.{_≡_, sym, _∙_}
 use mathlib.Core.List.{List}
 use Rattle.model.specs.Task.{Task}
 use Rattle.table.specs.declared.Verdict.{Verdict}
-use Rattle.analysis.specs.declared.Analysed.{Analysed}
 use Rattle.analysis.specs.Analysis.{Gives}
 use Rattle.demands.specs.Unique.{OneOnly, Unique}
 

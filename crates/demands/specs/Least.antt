@@ -2,9 +2,9 @@
 use Prim.Native.Nat.{ℕ, suc, _+_, _-_, _*_, _≤_, _<_}
 use mathlib.Core.Path.{_≡_}
 use mathlib.Core.List.{List, _∷_}
-use Rattle.lists.specs.Lists.{_∈_, keep, total}
+use Rattle.lists.specs.Lists.{keep, total}
 use Rattle.model.specs.Task.{Task, part, parts, partsBefore, cost}
-use Rattle.model.specs.Least.{IsLeast, NoLeast}
+use Rattle.model.specs.Least.{IsLeast}
 use Rattle.model.specs.Bounds.{limit, preemptive, up, down, higher, blocking}
 
 module _ (rows : List Task) (t : Task) where

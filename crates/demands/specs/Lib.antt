@@ -6,3 +6,4 @@ pub mod Demand2
 pub mod Demand3
 pub mod Unique
 pub mod Samples
+pub mod Demands

@@ -4,9 +4,7 @@ use mathlib.Core.Path.{_≡_}
 use mathlib.Core.List.{List}
 use Rattle.numbers.specs.Numbers.{Put}
 use Rattle.table.specs.declared.Table.{Table}
-use Rattle.files.specs.declared.Written.{Written}
 use Rattle.files.specs.Writing.{Wrote}
-use Rattle.analysis.specs.declared.Analysed.{Analysed}
 use Rattle.analysis.specs.Analysis.{Analyses, AnalysesTable}
 
 -- a promise on a result and what is left in lent memory allows one of each
