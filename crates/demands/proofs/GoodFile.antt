@@ -5,7 +5,7 @@ use native.Mathlib.Omega.{arith}
 use mathlib.Core.Path.{_≡_, refl, ap, _∙_}
 use mathlib.Core.List.{List, [], _∷_, _++_, map}
 use lib.ListN.{length, length-append, length-replicate, length-map}
-use Rattle.lists.specs.Lists.{padTo}
+use Rattle.lists.proofs.PadStores.{pad-length}
 use Rattle.model.specs.Task.{Task}
 use Rattle.model.specs.Rows.{GoodCore}
 use Rattle.model.specs.Bounds.{onCore}
@@ -63,14 +63,10 @@ tasks-good {tasks = tasks} g =
       apart = ap codeOf (rule-clashes (map rowOf tasks) (g .apart));
     }
 
--- fill behind a list makes it as long as it says
-padded : {A : Type 0} (fill : A) (n : ℕ) (xs : List A) → length xs ≤ n → length (padTo fill n xs) ≡ n
-padded fill n xs h = rw (length-append, length-replicate) (omega arith)
-
 -- the rows of a core of a good file
 pub core-good : {s : List ℕ} {tasks : List Task} (core : ℕ) → GoodFile s tasks → GoodCore (onCore core tasks)
 core-good {tasks = ts} core file =
     let g = tasks-good file in
-    let rows = padded zeroRow 64 (map rowOf ts) (rw length-map (g .few)) in
-    let times = padded 0 1024 (allTimes ts) (omega (arith, times-fit 0 ts (omega arith) (g .fine))) in
+    let rows = pad-length zeroRow 64 (map rowOf ts) (rw length-map (g .few)) in
+    let times = pad-length 0 1024 (allTimes ts) (omega (arith, times-fit 0 ts (omega arith) (g .fine))) in
     rw (tasks-stored ts) at (good-core (stored ts) rows times (stored-good ts g) core)
