@@ -92,7 +92,7 @@ bounds-length rows (t ∷ ts) = rw (length-append, listed-length (bound rows t) 
 
 module _ (v : Verdict) (rows : List Task) (room : List ℕ) (r : Analysed) (room′ : List ℕ) (g : Gives v rows room r room′) where
   -- the verdict is what is said
-  said : r .verdict ≡ v
+  pub said : r .verdict ≡ v
   unfolding answered
   said = ap (λ (a : Analysed). a .verdict) (g .answer)
 

@@ -5,9 +5,11 @@ pub mod ClashRule
 pub mod FileRule
 pub mod CoreRule
 pub mod GoodFile
+pub mod Tables
 pub mod Unique
 pub mod Answer
 pub mod Demand1
+pub mod TableCodes
 pub mod Placed
 pub mod Least
 pub mod Passed

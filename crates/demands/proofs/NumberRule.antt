@@ -24,7 +24,7 @@ use Rattle.demands.proofs.Reached.{stands-read}
 -- what is said of a number by its place in the range
 module _ (w : Wanted) (at x : ℕ) where
   -- out of its range
-  out-judged : (Within (w .low) (w .high) x → ⊥) → judge w at x ≡ C.OutOfRange at
+  pub out-judged : (Within (w .low) (w .high) x → ⊥) → judge w at x ≡ C.OutOfRange at
   unfolding judge
   out-judged out =
       ⊎-elim (λ low. rw (lt-ltb x (w .low) low))
@@ -34,12 +34,12 @@ module _ (w : Wanted) (at x : ℕ) where
       (either x (w .low))
 
   -- in its range and above what is left
-  over-judged : Within (w .low) (w .high) x → w .left < x → judge w at x ≡ C.TooManyTimes at
+  pub over-judged : Within (w .low) (w .high) x → w .left < x → judge w at x ≡ C.TooManyTimes at
   unfolding judge
   over-judged r h = rw (le-ltb x (w .low) (r .least), le-ltb (w .high) x (r .most), lt-ltb (w .left) x h)
 
 -- a number is in its range or not
-in-range : (w : Wanted) (x : ℕ) → Within (w .low) (w .high) x ⊎ (Within (w .low) (w .high) x → ⊥)
+pub in-range : (w : Wanted) (x : ℕ) → Within (w .low) (w .high) x ⊎ (Within (w .low) (w .high) x → ⊥)
 in-range w x =
     ⊎-elim (λ low. inr (λ r. omega (arith, r .least)))
     (λ least. ⊎-elim (λ high. inr (λ r. omega (arith, r .most))) (λ most. inl (record { least = least; most = most })) (either (w .high) x))
