@@ -3,7 +3,7 @@ use Prim.Native.Nat.{ℕ, _+_, _≤_}
 use native.Mathlib.Omega.{arith}
 use borrow.Author.Tests.{eq-eqb, ne-eqb}
 use mathlib.Core.Path.{_≡_, refl, sym, ap, subst, _∙_}
-use mathlib.Core.Logic.{_⊎_, inl, inr, ⊎-elim, _↔_}
+use mathlib.Core.Logic.{_⊎_, inl, inr, ⊎-elim}
 use mathlib.Core.Bool.{true, false}
 use mathlib.Core.List.{List, [], _∷_, _++_}
 use lib.ListN.{length, drop, length-append, length-drop}
@@ -13,11 +13,12 @@ use Rattle.model.specs.Task.{Task, parts}
 use Rattle.model.specs.Bounds.{onCore, rowBounds, bound}
 use Rattle.table.specs.declared.Verdict.{Verdict}
 use Rattle.table.specs.Verdicts.{codeOf}
+use Rattle.table.specs.Memory.{stored}
 use Rattle.files.specs.Reading.{decode, readAnswer}
 use Rattle.analysis.specs.declared.Analysed.{Analysed}
 use Rattle.analysis.specs.Analysis.{needed, boundsOf, coreBounds, coreSaid, writes, answered, roomAfter, Gives, fileSaid, fileRows, Analyses}
 use Rattle.demands.specs.Rules.{FileRule, GoodFile, AnalysisRule}
-use Rattle.demands.specs.Demand1.{Bounds, Says}
+use Rattle.demands.specs.Demand1.{Bounds, Says, Reads}
 use Rattle.demands.proofs.FileRule.{ReadingCode, reading-fault, good-read, by-rule, file-rule}
 use Rattle.demands.proofs.CoreRule.{rule-said, said-rule, written-code}
 use Rattle.demands.proofs.GoodFile.{core-good}
@@ -58,9 +59,19 @@ module _ (s : List ℕ) where
   unfolding readAnswer
   rule-read r = ⊎-elim (λ g. rw (good-read (g .1 .file)) (sym (g .0))) (λ f. rw (f .said)) (by-rule r)
 
-  -- both ways
-  pub file-codes : (v : Verdict) → (readAnswer s .verdict ≡ v) ↔ FileRule s v
-  file-codes v = (λ e. subst (FileRule s) e read-rule, rule-read)
+  -- a refused read gives zeros
+  read-zeros : (codeOf (readAnswer s .verdict) ≡ 0 → ⊥) → readAnswer s .table ≡ stored []
+  unfolding readAnswer
+  read-zeros n = ⊎-elim (λ f. rw (f .1 .said)) (λ g. absurd (n (rw (good-read (g .file))))) (file-rule s)
+
+  -- a good one the file's tasks
+  read-rows : (tasks : List Task) → GoodFile s tasks → readAnswer s .table ≡ stored tasks
+  unfolding readAnswer
+  read-rows tasks g = rw (good-read g)
+
+  -- all together
+  pub read-says : Reads s
+  read-says = record { codes = λ v. (λ e. subst (FileRule s) e read-rule, rule-read); zeros = read-zeros; rows = read-rows }
 
 -- ---- the room
 
@@ -75,7 +86,7 @@ does-write v (inl e) = rw (eq-eqb (codeOf v) 0 e)
 does-write v (inr e) = rw e
 
 -- no other does
-keeps : (v : Verdict) → (codeOf v ≡ 0 → ⊥) → (codeOf v ≡ 12 → ⊥) → writes v ≡ false
+pub keeps : (v : Verdict) → (codeOf v ≡ 0 → ⊥) → (codeOf v ≡ 12 → ⊥) → writes v ≡ false
 unfolding writes
 keeps v a b = rw (ne-eqb (codeOf v) 0 a, ne-eqb (codeOf v) 12 b)
 
@@ -97,7 +108,7 @@ module _ (v : Verdict) (rows : List Task) (room : List ℕ) (r : Analysed) (room
   said = ap (λ (a : Analysed). a .verdict) (g .answer)
 
   -- the room stays
-  stays : writes v ≡ false → (room′ ≡ room) × (r .count ≡ 0)
+  pub stays : writes v ≡ false → (room′ ≡ room) × (r .count ≡ 0)
   unfolding answered roomAfter
   stays f = (g .left ∙ rw f, ap (λ (a : Analysed). a .count) (g .answer) ∙ rw f)
 

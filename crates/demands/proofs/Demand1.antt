@@ -6,7 +6,7 @@ use lib.ListN.{length}
 use Rattle.files.specs.Reading.{decode}
 use Rattle.analysis.specs.Analysis.{answered, roomAfter, Gives, fileSaid, fileRows}
 use Rattle.demands.specs.Demand1.{Answered, Demand1}
-use Rattle.demands.proofs.Answer.{answer-says, file-codes}
+use Rattle.demands.proofs.Answer.{answer-says, read-says}
 use Rattle.demands.proofs.Unique.{gives-one}
 
 -- every file, core number and lent room gets one answer
@@ -24,4 +24,4 @@ one-answer s core room =
 
 -- demand 1
 pub demand1 : Demand1
-demand1 = record { one = one-answer; says = answer-says; files = file-codes }
+demand1 = record { one = one-answer; says = answer-says; reads = read-says }

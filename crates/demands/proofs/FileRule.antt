@@ -15,6 +15,7 @@ use Rattle.table.specs.Fields.{Wanted}
 use Rattle.table.specs.Memory.{rowOf}
 use Rattle.table.proofs.Codes.{is-fault}
 use Rattle.files.specs.Reading.{stop, go, _then_, unless, rowsAt, endAt, decode}
+use Rattle.files.proofs.Taken.{stopped-not}
 use Rattle.demands.specs.Reached.{Rows, Wants}
 use Rattle.demands.specs.Rules.{NumberRule, ClashRule, FileRule, Whole, GoodFile}
 use Rattle.demands.proofs.Reached.{rows-read, wants-read, reached}
@@ -98,3 +99,10 @@ file-rule s =
     whole : {v : Verdict} → ((v ≡ C.Good) × Read s) ⊎ Refused s v → ((v : Verdict) × Refused s v) ⊎ Read s
     whole (inl g) = inr (g .1)
     whole {v} (inr f) = inl (v, f)
+
+-- tasks that were read are those of a good file
+pub read-good : (s : List ℕ) (tasks : List Task) (n : ℕ) → decode s ≡ go tasks n → GoodFile s tasks
+read-good s tasks n e = ⊎-elim (λ f. stopped-not (decode s) (f .1 .said) e) (λ g. of-tasks (g .tasks) (g .file)) (file-rule s)
+  where
+    of-tasks : (ts : List Task) → GoodFile s ts → GoodFile s tasks
+    of-tasks ts g = let d = good-read g in let same : ts ≡ tasks = cc in subst (GoodFile s) same g

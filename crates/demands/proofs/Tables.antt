@@ -4,23 +4,22 @@ use native.Mathlib.Omega.{arith}
 use borrow.Author.Tests.{lt-ltb, le-ltb}
 use mathlib.Core.Path.{_≡_, refl, sym, ap, subst, _∙_}
 use mathlib.Core.Logic.{_⊎_, inl, inr, ⊎-elim}
-use mathlib.Core.Bool.{Bool, true, false}
 use mathlib.Core.List.{List, [], _∷_, _++_}
-use lib.ListN.{length, take, drop, replicate}
+use lib.ListN.{length, drop}
 use Rattle.lists.proofs.Tests.{by-test, either}
-use Rattle.model.specs.Rows.{Within}
 use Rattle.table.specs.declared.Row.{Row}
 use Rattle.table.specs.declared.Table.{Table}
 use Rattle.table.specs.declared.Verdict.{Verdict}
 use Rattle.table.specs.declared.Verdict.the-variants as C
 use Rattle.table.specs.Verdicts.{codeOf, good, _orElse_}
-use Rattle.table.specs.Fields.{Wanted, head, time, fieldsOf, judge, faultIn}
+use Rattle.table.specs.Fields.{Wanted, head, fieldsOf, judge, faultIn}
 use Rattle.table.specs.Memory.{usedRows}
 use Rattle.table.specs.Faults.{rowFault, rowsFault, faultOf}
 use Rattle.table.proofs.Codes.{or-good, is-fault}
 use Rattle.table.proofs.Fine.{fine-good}
 use Rattle.demands.specs.Tables.{rowWants, rowHas, MayBe, InRow, RowFine, InRows, InTable, TableRule}
 use Rattle.demands.proofs.NumberRule.{out-judged, over-judged, in-range}
+use Rattle.demands.proofs.FileRule.{ReadingCode}
 use Rattle.demands.proofs.ClashRule.{rule-clashes, clashes-rule, clash-code}
 
 -- ---- one number
@@ -185,9 +184,9 @@ module _ (t : Table) where
   pub fault-rule : TableRule t (faultOf t)
   fault-rule = let r = some-rule in subst (TableRule t) (sym (rule-fault (r .1))) (r .1)
 
-  -- a rule is a fault's, or the table is good
-  pub table-code : {v : Verdict} → TableRule t v → (v ≡ C.Good) ⊎ (codeOf v ≡ 0 → ⊥)
-  table-code (TableRule.count h) = inr (λ e. omega arith)
-  table-code (TableRule.out h a o) = inr (λ e. omega arith)
-  table-code (TableRule.over h a r o) = inr (λ e. omega arith)
-  table-code (TableRule.rows h f c) = ⊎-elim inl (λ k. inr (λ e. omega (arith, k .0))) (clash-code (usedRows t) c)
+  -- these are the codes 3, 7, 4, 5 and 6, or the table is good
+  pub table-code : {v : Verdict} → TableRule t v → (v ≡ C.Good) ⊎ ReadingCode v
+  table-code (TableRule.count h) = inr (omega arith)
+  table-code (TableRule.out h a o) = inr (omega arith)
+  table-code (TableRule.over h a r o) = inr (omega arith)
+  table-code (TableRule.rows h f c) = clash-code (usedRows t) c

@@ -4,12 +4,13 @@
 use Prim.Native.Nat.{ℕ}
 use mathlib.Core.Path.{_≡_}
 use mathlib.Core.Logic.{_⊎_, _↔_}
-use mathlib.Core.List.{List, _++_}
+use mathlib.Core.List.{List, [], _++_}
 use lib.ListN.{length, drop}
 use Rattle.model.specs.Task.{Task}
 use Rattle.model.specs.Bounds.{onCore}
 use Rattle.table.specs.declared.Verdict.{Verdict}
 use Rattle.table.specs.Verdicts.{codeOf}
+use Rattle.table.specs.Memory.{stored}
 use Rattle.files.specs.Reading.{readAnswer}
 use Rattle.analysis.specs.declared.Analysed.{Analysed}
 use Rattle.analysis.specs.Analysis.{needed, coreBounds, Analyses}
@@ -38,9 +39,14 @@ pub record Says (s : List ℕ) (core : ℕ) (room : List ℕ) (r : Analysed) (ro
   pub written : (codeOf (r .verdict) ≡ 0) ⊎ (codeOf (r .verdict) ≡ 12)
       → (tasks : List Task) × GoodFile s tasks × Bounds (onCore core tasks) room r room′
 
+-- reading alone: a refused read gives a table of zeros, a good one the file's rows and times
+pub record Reads (s : List ℕ) : Type 0 where
+  pub codes : (v : Verdict) → (readAnswer s .verdict ≡ v) ↔ FileRule s v
+  pub zeros : (codeOf (readAnswer s .verdict) ≡ 0 → ⊥) → readAnswer s .table ≡ stored []
+  pub rows : (tasks : List Task) → GoodFile s tasks → readAnswer s .table ≡ stored tasks
+
 -- demand 1
 pub record Demand1 : Type 0 where
   pub one : (s : List ℕ) (core : ℕ) (room : List ℕ) → Answered s core room
   pub says : (s : List ℕ) (core : ℕ) (room : List ℕ) (r : Analysed) (room′ : List ℕ) → Analyses s core room r room′ → Says s core room r room′
-  -- so it is for the verdict of reading alone
-  pub files : (s : List ℕ) (v : Verdict) → (readAnswer s .verdict ≡ v) ↔ FileRule s v
+  pub reads : (s : List ℕ) → Reads s

@@ -2,6 +2,7 @@
 use Rattle.demands.specs.Demand1.{Demand1}
 use Rattle.demands.specs.Demand2.{Demand2}
 use Rattle.demands.specs.Demand3.{Demand3}
+use Rattle.demands.specs.Tables.{Tables}
 use Rattle.demands.specs.Samples.{Samples}
 use Rattle.demands.specs.Unique.{Unique}
 
@@ -12,5 +13,7 @@ pub record Demands : Type 1 where
   pub demand2 : Demand2
   -- no allowed run is later than the number left for a part
   pub demand3 : Demand3
+  -- so it is for tables in memory, which are written or analysed
+  pub tables : Tables
   pub samples : Samples
   pub unique : Unique

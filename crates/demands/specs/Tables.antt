@@ -10,14 +10,15 @@ use Rattle.table.specs.declared.Row.{Row}
 use Rattle.table.specs.declared.Table.{Table}
 use Rattle.table.specs.declared.Verdict.{Verdict}
 use Rattle.table.specs.declared.Verdict.the-variants as C
+use Rattle.table.specs.Verdicts.{codeOf}
 use Rattle.table.specs.Fields.{Wanted, head, time, fieldsOf}
 use Rattle.table.specs.Memory.{usedRows, tasksOf}
 use Rattle.files.specs.declared.Written.{Written}
 use Rattle.files.specs.Writing.{fileOf, Wrote}
 use Rattle.files.specs.RoundTrips.{InMemory}
 use Rattle.analysis.specs.declared.Analysed.{Analysed}
-use Rattle.analysis.specs.Analysis.{AnalysesTable}
-use Rattle.demands.specs.Rules.{ClashRule, CoreRule}
+use Rattle.analysis.specs.Analysis.{Analyses, AnalysesTable}
+use Rattle.demands.specs.Rules.{ClashRule, GoodFile, CoreRule}
 
 -- what a row is to have, with `used` times before it: its fields in file order, then its times; and what it has
 abbrev pub rowWants : ℕ → Row → List Wanted
@@ -73,9 +74,24 @@ pub data MemoryRule (t : Table) (core room : ℕ) : Verdict → Type 0 where
   fault : {v : Verdict} → TableRule t v → (v ≡ C.Good → ⊥) → MemoryRule t core room v
   analysed : {v : Verdict} → TableRule t C.Good → CoreRule core (onCore core (tasksOf t)) room v → MemoryRule t core room v
 
--- each code comes exactly when its rule says
-pub record TableCodes : Type 0 where
-  pub writing : (t : Table) (out : List ℕ) (r : Written) (out′ : List ℕ) → Wrote t out r out′
-      → (v : Verdict) → (r .verdict ≡ v) ↔ WriteRule t (length out) v
-  pub analysis : (t : Table) → InMemory t → (core : ℕ) (room : List ℕ) (r : Analysed) (room′ : List ℕ) → AnalysesTable t core room r room′
+-- what writing says and leaves: refused writing changes no byte, and bytes past the written ones stay
+pub record WriteSays (t : Table) (out : List ℕ) (r : Written) (out′ : List ℕ) : Type 0 where
+  pub codes : (v : Verdict) → (r .verdict ≡ v) ↔ WriteRule t (length out) v
+  pub kept : (codeOf (r .verdict) ≡ 0 → ⊥) → (out′ ≡ out) × (r .count ≡ 0)
+  pub written : codeOf (r .verdict) ≡ 0 → (out′ ≡ fileOf t ++ drop (length (fileOf t)) out) × (r .count ≡ length (fileOf t))
+
+-- a good table is analysed as the file that it is written as, so that demands 2 and 3 are about tables too
+pub record AsFile (t : Table) : Type 0 where
+  pub file : GoodFile (fileOf t) (tasksOf t)
+  pub same : (core : ℕ) (room : List ℕ) (r : Analysed) (room′ : List ℕ)
+      → AnalysesTable t core room r room′ ↔ Analyses (fileOf t) core room r room′
+
+-- tables in memory
+pub record Tables : Type 0 where
+  pub writing : (t : Table) (out : List ℕ) (r : Written) (out′ : List ℕ) → Wrote t out r out′ → WriteSays t out r out′
+  pub codes : (t : Table) → InMemory t → (core : ℕ) (room : List ℕ) (r : Analysed) (room′ : List ℕ) → AnalysesTable t core room r room′
       → (v : Verdict) → (r .verdict ≡ v) ↔ MemoryRule t core (length room) v
+  -- a table with a fault of its own changes nothing lent
+  pub kept : (t : Table) (core : ℕ) (room : List ℕ) (r : Analysed) (room′ : List ℕ) → AnalysesTable t core room r room′
+      → (TableRule t C.Good → ⊥) → (room′ ≡ room) × (r .count ≡ 0)
+  pub good : (t : Table) → InMemory t → TableRule t C.Good → AsFile t
