@@ -25,7 +25,7 @@ use Rattle.demands.proofs.GoodFile.{core-good}
 use Rattle.demands.proofs.Answer.{answer-says}
 use Rattle.demands.proofs.Passed.{core-passes, all-windows, bounds-left}
 use Rattle.demands.proofs.Placed.{bound-placed}
-use Rattle.demands.proofs.Least.{window-is, one-bound, bound-is}
+use Rattle.demands.proofs.Least.{window-is, one-bound, bound-is, equations}
 use Rattle.demands.proofs.Unique.{gives-one}
 
 -- a core passes by the model exactly if each row meets its deadline by the equations
@@ -98,6 +98,7 @@ isolated core room s z tasks others g h same r q room′ left a b =
 pub demand2 : Demand2
 demand2 =
     record {
+      equations = equations;
       bounds = λ s core room r room′ a c tasks g. leaves-bounds s core room r room′ a tasks g c;
       passes = passes-exactly;
       written-is-read = written-is-read;

@@ -8,18 +8,18 @@ use mathlib.Core.Bool.{true}
 use mathlib.Core.List.{List}
 use Rattle.lists.specs.Lists.{_∈_}
 use Rattle.lists.proofs.Tests.{by-test, either}
-use Rattle.model.specs.declared.Found.the-variants.{At}
+use Rattle.model.specs.declared.Found.the-variants.{At, Nothing}
 use Rattle.model.specs.Task.{Task, part, parts}
 use Rattle.model.specs.Rows.{GoodTask, GoodCore}
 use Rattle.model.specs.Least.{IsLeast, value, maxBelow}
 use Rattle.model.specs.Bounds.{limit, cooperative, preemptive, before, through, demand, window, jobs}
 use Rattle.model.specs.Bounds.{preemptiveEnd, start, endFrom, response, bound}
-use Rattle.model.proofs.Least.{least-at, least-is, says-same}
+use Rattle.model.proofs.Least.{least-at, least-none, least-is, says-same}
 use Rattle.model.proofs.Exists.{the-window, finish-range, cooperative-range, finish-cooperative, finish-preemptive}
 use Rattle.model.proofs.Responses.{response-at}
 use Rattle.model.proofs.Rounding.{before-pos}
 use Rattle.model.proofs.Rows.{period-pos, is-cooperative, is-preemptive, other-kind}
-use Rattle.demands.specs.Least.{IsWindow, endSide, endFromSide, EndsAt, IsBound}
+use Rattle.demands.specs.Least.{IsWindow, endSide, endFromSide, EndsAt, IsBound, Equations}
 
 -- two least solutions are the same
 one-least : (g : ℕ → ℕ) (from limit x y : ℕ) → IsLeast g from limit x → IsLeast g from limit y → x ≡ y
@@ -119,3 +119,16 @@ module _ (rows : List Task) (core : GoodCore rows) (t : Task) (m : t ∈ rows) (
       at-top : (j : ℕ) → j < before t L → bound rows t r ≡ response rows t r j
           → (j : ℕ) × (j < before t L) × (f : ℕ) × EndsAt rows t r j f × (bound rows t r ≡ f - j * t .period)
       at-top j h e = (j, h, f j h, f-ends j h, e ∙ f-response j h)
+
+-- the model's window and bounds are those of the equations
+pub equations : (rows : List Task) → GoodCore rows → (t : Task) → t ∈ rows → Equations rows t
+unfolding window demand before
+equations rows core t m =
+    record {
+      found = window-is rows t;
+      none = (λ e. least-none (demand rows t) 1 limit e, λ n. least-is (demand rows t) 1 limit Nothing n);
+      bounds = λ L w r h b. (λ e. subst (IsBound rows t L r) e (is L w r h), λ i. one-bound rows t (core .good t m) L r _ b (is L w r h) i);
+    }
+  where
+    is : (L : ℕ) → IsWindow rows t L → (r : ℕ) → r < parts t → IsBound rows t L r (bound rows t r)
+    is L w r h = bound-is rows core t m L (window-is rows t L .1 w) r h

@@ -8,13 +8,14 @@ use mathlib.Core.List.{List}
 use lib.ListN.{length}
 use Rattle.lists.specs.Lists.{_∈_, Place}
 use Rattle.model.specs.Task.{Task, parts}
+use Rattle.model.specs.Rows.{GoodCore}
 use Rattle.model.specs.Bounds.{onCore}
 use Rattle.table.specs.Verdicts.{codeOf}
 use Rattle.files.specs.RoundTrips.{WrittenIsRead, ReadIsWritten}
 use Rattle.analysis.specs.declared.Analysed.{Analysed}
 use Rattle.analysis.specs.Analysis.{Analyses}
 use Rattle.demands.specs.Rules.{GoodFile, Enough}
-use Rattle.demands.specs.Least.{IsWindow, IsBound, Meets}
+use Rattle.demands.specs.Least.{IsWindow, IsBound, Equations, Meets}
 use Rattle.demands.specs.Demand3.{placeOf}
 
 -- the numbers left are the bounds of the core's rows
@@ -32,6 +33,7 @@ Isolated =
 
 -- demand 2
 pub record Demand2 : Type 0 where
+  pub equations : (rows : List Task) → GoodCore rows → (t : Task) → t ∈ rows → Equations rows t
   pub bounds : (s : List ℕ) (core : ℕ) (room : List ℕ) (r : Analysed) (room′ : List ℕ) → Analyses s core room r room′
       → (codeOf (r .verdict) ≡ 0) ⊎ (codeOf (r .verdict) ≡ 12)
       → (tasks : List Task) → GoodFile s tasks → LeavesBounds (onCore core tasks) room′

@@ -1,11 +1,13 @@
 -- Equations 4 to 12 as document 01 sets them, and what a bound is, said without the searches. Jobs are numbered by j from 0: k − 1.
 use Prim.Native.Nat.{ℕ, suc, _+_, _-_, _*_, _≤_, _<_}
 use mathlib.Core.Path.{_≡_}
+use mathlib.Core.Logic.{_↔_}
 use mathlib.Core.List.{List, _∷_}
 use Rattle.lists.specs.Lists.{keep, total}
+use Rattle.model.specs.declared.Found.the-variants.{At, Nothing}
 use Rattle.model.specs.Task.{Task, part, parts, partsBefore, cost}
-use Rattle.model.specs.Least.{IsLeast}
-use Rattle.model.specs.Bounds.{limit, preemptive, up, down, higher, blocking}
+use Rattle.model.specs.Least.{IsLeast, NoLeast}
+use Rattle.model.specs.Bounds.{limit, preemptive, up, down, higher, blocking, window, bound}
 
 module _ (rows : List Task) (t : Task) where
   -- B plus, over this row and all higher rows, up(L/T) times C (4, 9)
@@ -43,6 +45,12 @@ module _ (rows : List Task) (t : Task) where
   pub record IsBound (L r b : ℕ) : Type 0 where
     pub each : (j : ℕ) → j < up L (t .period) → (f : ℕ) × EndsAt r j f × (f - j * t .period ≤ b)
     pub some : (j : ℕ) × (j < up L (t .period)) × (f : ℕ) × EndsAt r j f × (b ≡ f - j * t .period)
+
+  -- the model's window and bounds, which the codes 11 and 12 speak of, are these
+  pub record Equations : Type 0 where
+    pub found : (L : ℕ) → (window rows t ≡ At L) ↔ IsWindow L
+    pub none : (window rows t ≡ Nothing) ↔ NoLeast windowSide 1 limit
+    pub bounds : (L : ℕ) → IsWindow L → (r : ℕ) → r < parts t → (b : ℕ) → (bound rows t r ≡ b) ↔ IsBound L r b
 
   -- the row has a window up to the limit, and the bound of its last part is within its deadline
   pub record Meets : Type 0 where

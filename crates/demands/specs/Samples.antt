@@ -13,8 +13,7 @@ use Rattle.analysis.specs.Analysis.{coreSaid, Analyses}
 -- Set A as a file, with task 3's deadline at d
 abbrev pub bytesA : ℕ → List ℕ
 bytesA d =
-    3
-    ∷ (1 ∷ 0 ∷ 0 ∷ 3 ∷ 5 ∷ 5 ∷ 1 ∷ 1 ∷ 2 ∷ 0 ∷ 1 ∷ 2 ∷ 10 ∷ 10 ∷ 2 ∷ 1 ∷ 2 ∷ 3 ∷ 0 ∷ 1 ∷ 1 ∷ 20 ∷ d ∷ 2 ∷ 2 ∷ 3 ∷ [])
+    3 ∷ 1 ∷ 0 ∷ 0 ∷ 3 ∷ 5 ∷ 5 ∷ 1 ∷ 1 ∷ 2 ∷ 0 ∷ 1 ∷ 2 ∷ 10 ∷ 10 ∷ 2 ∷ 1 ∷ 2 ∷ 3 ∷ 0 ∷ 1 ∷ 1 ∷ 20 ∷ d ∷ 2 ∷ 2 ∷ 3 ∷ []
 
 pub record Samples : Type 0 where
   pub onBounds : Model.Samples

@@ -15,7 +15,7 @@ OneOnly {A} {B} P = (r q : A) (left other : B) → P r left → P q other → (r
 abbrev pub Equation : Type 1
 Equation = (A : Type 0) (f r q : A) → r ≡ f → q ≡ f → r ≡ q
 
--- the promises of `analyse`, `analyse_table`, `write` and `put_number`; all others are equations
+-- the promises on lent memory; those of the other public functions that read, write, judge or name are equations
 pub record Unique : Type 1 where
   pub analyses : (s : List ℕ) (core : ℕ) (room : List ℕ) → OneOnly (Analyses s core room)
   pub table : (t : Table) (core : ℕ) (room : List ℕ) → OneOnly (AnalysesTable t core room)
