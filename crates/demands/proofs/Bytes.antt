@@ -42,6 +42,7 @@ short-byte k b bs h p g = absurd (omega (arith, g 0 p .1))
 
 -- ---- cut off, of at most k bytes
 
+-- the bytes end, fewer than k, and a number would go on behind them
 abbrev Cut : ℕ → List ℕ → Type 0
 Cut k bs = (length bs < k) × GoOn (length bs) bs
 
@@ -80,6 +81,7 @@ record Zero (alone : Bool) (k : ℕ) (bs : List ℕ) : Type 0 where
   goOn : GoOn j bs
   zero : Place bs j 0
 
+-- k bytes go on, or a zero ends fewer
 abbrev Ill : Bool → ℕ → List ℕ → Type 0
 Ill alone k bs = GoOn k bs ⊎ Zero alone k bs
 
@@ -143,6 +145,7 @@ sort-cut (N.Got a n) e = absurd (omega arith)
 sort-cut N.EndsEarly e = refl
 sort-cut N.Malformed e = absurd (omega arith)
 
+-- and ill-formed
 sort-ill : (x : Number) → sort x ≡ 2 → x ≡ N.Malformed
 sort-ill (N.Got a n) e = absurd (omega arith)
 sort-ill N.EndsEarly e = absurd (omega arith)

@@ -116,6 +116,7 @@ module _ {A : Type 0} (f : A → A → Bool) where
   miss-more earlier rs r c e i zero u h p = rw (append-nil earlier, ← p) e
   miss-more earlier rs r c e i (suc k) u h p = rw append-assoc at (i .miss k u (omega arith) p)
 
+  -- so the count is one more than that of the others
   later : (earlier rs : List A) (r : A) (c : ℕ) → any (f r) earlier ≡ false → Counted (earlier ++ (r ∷ [])) rs c
       → Counted earlier (r ∷ rs) (suc c)
   unfolding Place

@@ -34,6 +34,7 @@ module _ (rows : List Task) (core : GoodCore rows) where
   last-part : (t : Task) → t ∈ rows → parts t - 1 < parts t
   last-part t m = omega (arith, core .good t m .count .least)
 
+  -- where it passes, each does
   passes-meets : Passes rows → (t : Task) → t ∈ rows → Meets rows t
   passes-meets p t m =
       let w = p .windows t m in
@@ -45,6 +46,7 @@ module _ (rows : List Task) (core : GoodCore rows) where
         within = p .meets t m;
       }
 
+  -- where each does, it passes
   meets-passes : ((t : Task) → t ∈ rows → Meets rows t) → Passes rows
   meets-passes all = record { windows = λ t m. (all t m .L, found t m); meets = within }
     where

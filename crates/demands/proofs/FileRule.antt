@@ -26,6 +26,7 @@ use Rattle.demands.proofs.ClashRule.{rule-clashes, clashes-rule, clash-
 abbrev pub ReadingCode : Verdict → Type 0
 ReadingCode v = (0 < codeOf v) × (codeOf v < 9)
 
+-- it is not that of a good file
 pub reading-fault : {v : Verdict} → ReadingCode v → v ≡ C.Good → ⊥
 reading-fault c e = omega (arith, c .0, ap codeOf e)
 
@@ -81,6 +82,7 @@ module _ {s : List ℕ} where
       }))
       (clash-code (map rowOf tasks) r)
 
+  -- whichever rule it is
   pub by-rule : {v : Verdict} → FileRule s v → ((v ≡ C.Good) × Read s) ⊎ Refused s v
   by-rule (FileRule.number a r) = inr (number-refused a r)
   by-rule (FileRule.rest r h) = inr (rest-refused r h)

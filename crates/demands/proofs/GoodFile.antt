@@ -27,7 +27,7 @@ module _ {s : List ℕ} where
   unfolding AllFine
   along-fine Along.here e = rw e tt
   along-fine (Along.more a l) e =
-      (record { least = a .range .least; most = a .range .most; room = a .left }, along-fine l e)
+      (record { least = a .may .range .least; most = a .may .range .most; room = a .may .left }, along-fine l e)
 
 -- a row of such numbers
 row-fine : (used : ℕ) (fields times : List ℕ) → AllFine (head used) fields → AllFine (itsTimes fields) times
@@ -47,7 +47,7 @@ fine-snoc used (u ∷ ts) t f g =
 -- rows that stand there
 rows-fine : {s : List ℕ} {k at : ℕ} {done : List Task} → Rows s k done at → FineTasks 0 done × (length done + k ≤ 64)
 unfolding FineTasks
-rows-fine (Rows.none a) = (tt, omega (arith, a .range .most))
+rows-fine (Rows.none a) = (tt, omega (arith, a .may .range .most))
 rows-fine (Rows.more {done = done} {fields = fields} {times = times} r f t) =
     let i = rows-fine r in
     let task = row-fine (length (allTimes done)) fields times (along-fine f refl) (along-fine t refl) in

@@ -54,6 +54,7 @@ module _ (rows : List Task) (t : Task) where
       let end : top .2 ≡ same .0 = ends-once good r (top .0) (top .2) (same .0) (top .3) (same .1) in
       omega (arith, same .2, top .4, ap (λ (f : ℕ). f - top .0 * t .period) end)
 
+  -- both ways
   pub one-bound : GoodTask t → (L r b c : ℕ) → IsBound rows t L r b → IsBound rows t L r c → b ≡ c
   one-bound good L r b c x y = le-antisymm (bound-most good L r b c x y) (bound-most good L r c b y x)
 

@@ -75,7 +75,7 @@ module _ (s : List ℕ) (w : Wanted) (at : ℕ) where
           ⊎-elim
           (λ r.
           ⊎-elim (λ over. one-rule v (NumberRule.over q r over) e)
-          (λ room. stopped-not (fieldAt w s at) e (stands-read (record { number = q; range = r; left = room })))
+          (λ room. stopped-not (fieldAt w s at) e (stands-read (record { number = q; may = record { range = r; left = room } })))
           (either (w .left) x))
           (λ out. one-rule v (NumberRule.out q out) e)
           (in-range w x)

@@ -4,6 +4,7 @@ use mathlib.Core.Path.{_≡_, refl, sym, ap, _∙_}
 use mathlib.Core.Logic.{_⊎_, inl, inr, ⊎-elim}
 use mathlib.Core.List.{List, [], _∷_, _++_, append-assoc, append-nil}
 use Rattle.model.specs.Task.{Task}
+use Rattle.model.specs.Rows.{Within}
 use Rattle.table.specs.declared.Verdict.{Verdict}
 use Rattle.table.specs.Verdicts.{good}
 use Rattle.table.specs.Fields.{Wanted, field}
@@ -19,7 +20,7 @@ module _ {s : List ℕ} where
   pub stands-read : {w : Wanted} {at v next : ℕ} → Stands s w at v next → fieldAt w s at ≡ go v next
   unfolding fieldAt asked unless good
   stands-read {w} {at} {v} {next} n =
-      let fine : Fine w v = record { least = n .range .least; most = n .range .most; room = n .left } in
+      let fine : Fine w v = record { least = n .may .range .least; most = n .may .range .most; room = n .may .left } in
       rw (n .number, fine-good w at v fine)
 
   -- reading goes on behind numbers that stand there
@@ -91,7 +92,8 @@ module _ (s : List ℕ) where
   read-stands : (w : Wanted) (at v next : ℕ) → fieldAt w s at ≡ go v next → Stands s w at v next
   read-stands w at v next e =
       let r = field-read w s at v next e in
-      record { number = r .number; range = record { least = r .fine .least; most = r .fine .most }; left = r .fine .room }
+      let range : Within (w .low) (w .high) v = record { least = r .fine .least; most = r .fine .most } in
+      record { number = r .number; may = record { range = range; left = r .fine .room } }
 
   -- one number after another
   fields-reached : (ws : List Wanted) (at : ℕ) → AllStand s ws at ⊎ OneRefused s ws at

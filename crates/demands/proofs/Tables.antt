@@ -17,7 +17,8 @@ use Rattle.table.specs.Memory.{usedRows}
 use Rattle.table.specs.Faults.{rowFault, rowsFault, faultOf}
 use Rattle.table.proofs.Codes.{or-good, is-fault}
 use Rattle.table.proofs.Fine.{fine-good}
-use Rattle.demands.specs.Tables.{rowWants, rowHas, MayBe, InRow, RowFine, InRows, InTable, TableRule}
+use Rattle.demands.specs.Reached.{MayBe}
+use Rattle.demands.specs.Tables.{rowWants, rowHas, InRow, RowFine, InRows, InTable, TableRule}
 use Rattle.demands.proofs.NumberRule.{out-judged, over-judged, in-range}
 use Rattle.demands.proofs.FileRule.{ReadingCode}
 use Rattle.demands.proofs.ClashRule.{rule-clashes, clashes-rule, clash-code}
@@ -68,12 +69,14 @@ faults-join (w ∷ ws) vs n [] ys l = absurd (omega arith)
 faults-join (w ∷ ws) vs n (x ∷ xs) ys l =
     by-test (good (judge w n x)) (λ t. rw t (faults-join ws vs n xs ys (omega arith))) (λ t. rw (t, t))
 
+-- so a row has the fault of its fields and times
 row-fault : (i used : ℕ) (r : Row) (times : List ℕ) → rowFault i used r times ≡ faultIn (rowWants used r) i (rowHas r times)
 unfolding rowFault head
 row-fault i used r times = sym (faults-join (head used) _ i (fieldsOf r) _ refl)
 
 -- ---- the rows' numbers
 
+-- a number at fault behind rows that are fine
 rows-bad : {i used n : ℕ} {rows : List Row} {times : List ℕ} {w : Wanted} {x : ℕ} → InRows i used rows times n w x
     → (codeOf (judge w n x) ≡ 0 → ⊥) → rowsFault i used rows times ≡ judge w n x
 unfolding rowsFault
@@ -83,6 +86,7 @@ rows-bad (InRows.this {i = i} {used = used} {r = r} {times = times} a) f =
 rows-bad (InRows.later {i = i} {used = used} {r = r} {times = times} a b) f =
     or-good _ _ (ap codeOf (row-fault i used r times ∙ row-fine _ i _ a)) ∙ rows-bad b f
 
+-- no number at fault
 rows-fine : (i used : ℕ) (rows : List Row) (times : List ℕ)
     → ((n x : ℕ) (w : Wanted) → InRows i used rows times n w x → MayBe w x) → rowsFault i used rows times ≡ C.Good
 unfolding rowsFault

@@ -1,4 +1,4 @@
--- What the user asked for, the samples that are marked P, and that each promise allows one result: all of it together.
+-- What the user asked for, all of it together.
 use Rattle.demands.specs.Demand1.{Demand1}
 use Rattle.demands.specs.Demand2.{Demand2}
 use Rattle.demands.specs.Demand3.{Demand3}
@@ -6,6 +6,7 @@ use Rattle.demands.specs.Tables.{Tables}
 use Rattle.demands.specs.Samples.{Samples}
 use Rattle.demands.specs.Unique.{Unique}
 
+-- the demands, the samples that are marked P, and that each promise allows one result
 pub record Demands : Type 1 where
   -- one answer; each refusal exactly when its rule says; what is left in lent room
   pub demand1 : Demand1

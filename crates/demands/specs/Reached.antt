@@ -33,11 +33,15 @@ pub record ZeroLast (bytes : List ℕ) : Type 0 where
 abbrev pub IllFormed : List ℕ → Type 0
 IllFormed bytes = GoOn 4 bytes ⊎ ZeroLast bytes
 
--- a number that may stand at a place stands there, and behind it the next begins
+-- a number is what it may be: in its range, and no more than are left
+pub record MayBe (w : Wanted) (x : ℕ) : Type 0 where
+  pub range : Within (w .low) (w .high) x
+  pub left : x ≤ w .left
+
+-- such a number stands at a place, and behind it the next begins
 pub record Stands (s : List ℕ) (w : Wanted) (at v next : ℕ) : Type 0 where
   pub number : numberAt s at ≡ N.Got v next
-  pub range : Within (w .low) (w .high) v
-  pub left : v ≤ w .left
+  pub may : MayBe w v
 
 -- of the numbers wanted from one place on, some stand there, one behind the other; the others are wanted at the next place
 pub data Along (s : List ℕ) : List Wanted → ℕ → List ℕ → List Wanted → ℕ → Type 0 where
@@ -45,10 +49,11 @@ pub data Along (s : List ℕ) : List Wanted → ℕ → List ℕ → List Wanted
   more : {w : Wanted} {ws others : List Wanted} {at v next n : ℕ} {vs : List ℕ}
       → Stands s w at v next → Along s ws next vs others n → Along s (w ∷ ws) at (v ∷ vs) others n
 
--- the fields wanted of the next row, and its times once these are read
+-- the fields wanted of the next row
 abbrev pub itsFields : List Task → List Wanted
 itsFields done = head (length (allTimes done))
 
+-- and its times, once these are read
 abbrev pub itsTimes : List ℕ → List Wanted
 itsTimes fields = replicate (rowFrom fields .parts) time
 

@@ -23,6 +23,7 @@ use Rattle.demands.specs.Reached.{CutOff, IllFormed, Rows, Wants}
 
 -- ---- 1, 2, 3, 7: the number wanted at a place
 
+-- a wanted number is refused
 pub data NumberRule (s : List ℕ) (w : Wanted) (at : ℕ) : Verdict → Type 0 where
   -- the input ends before it is complete: file length
   cut : CutOff (drop at s) → NumberRule s w at (C.EndsEarly (length s))
@@ -85,6 +86,7 @@ pub record Whole (s : List ℕ) (tasks : List Task) : Type 0 where
   pub rows : Rows s 0 tasks at
   pub last : length s ≤ at
 
+-- a file is refused, or has no fault
 pub data FileRule (s : List ℕ) : Verdict → Type 0 where
   number : {at : ℕ} {w : Wanted} {v : Verdict} → Wants s at w → NumberRule s w at v → FileRule s v
   -- bytes after the last row: offset of the first
@@ -103,6 +105,7 @@ pub record Enough (core : ℕ) (rows : List Task) (room : ℕ) : Type 0 where
   pub such : core ≤ 3
   pub fits : needed rows ≤ room
 
+-- what is said of a core
 pub data CoreRule (core : ℕ) (rows : List Task) (room : ℕ) : Verdict → Type 0 where
   -- core asked for above 3: that core
   above : 3 < core → CoreRule core rows room (C.NoSuchCore core)

@@ -15,6 +15,7 @@ abbrev pub bytesA : ℕ → List ℕ
 bytesA d =
     3 ∷ 1 ∷ 0 ∷ 0 ∷ 3 ∷ 5 ∷ 5 ∷ 1 ∷ 1 ∷ 2 ∷ 0 ∷ 1 ∷ 2 ∷ 10 ∷ 10 ∷ 2 ∷ 1 ∷ 2 ∷ 3 ∷ 0 ∷ 1 ∷ 1 ∷ 20 ∷ d ∷ 2 ∷ 2 ∷ 3 ∷ []
 
+-- all of them
 pub record Samples : Type 0 where
   pub onBounds : Model.Samples
   -- FF FF FF 07 read as 16,777,215

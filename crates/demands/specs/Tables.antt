@@ -18,19 +18,16 @@ use Rattle.files.specs.Writing.{fileOf, Wrote}
 use Rattle.files.specs.RoundTrips.{InMemory}
 use Rattle.analysis.specs.declared.Analysed.{Analysed}
 use Rattle.analysis.specs.Analysis.{Analyses, AnalysesTable}
+use Rattle.demands.specs.Reached.{MayBe}
 use Rattle.demands.specs.Rules.{ClashRule, GoodFile, CoreRule}
 
--- what a row is to have, with `used` times before it: its fields in file order, then its times; and what it has
+-- what a row is to have, with `used` times before it: its fields in file order, then its times
 abbrev pub rowWants : ℕ → Row → List Wanted
 rowWants used r = head used ++ replicate (r .parts) time
 
+-- and what it has
 abbrev pub rowHas : Row → List ℕ → List ℕ
 rowHas r times = fieldsOf r ++ take (r .parts) times
-
--- a number is what it may be
-pub record MayBe (w : Wanted) (x : ℕ) : Type 0 where
-  pub range : Within (w .low) (w .high) x
-  pub left : x ≤ w .left
 
 -- x stands in a row where w is wanted, and the numbers before it are all what they may be
 pub data InRow : List Wanted → List ℕ → Wanted → ℕ → Type 0 where
