@@ -12,3 +12,4 @@ pub mod Laid
 pub mod Seven
 pub mod NoClash
 pub mod GoodCore
+pub mod SmallCodes

@@ -1,0 +1,5 @@
+pub mod Said
+pub mod Given
+pub mod Columned
+pub mod Loaded
+pub mod Tabled
