@@ -1,0 +1,10 @@
+pub mod Reached
+pub mod Rules
+pub mod Least
+pub mod Demand1
+pub mod Demand2
+pub mod Demand3
+pub mod Tables
+pub mod Unique
+pub mod Samples
+pub mod Demands
