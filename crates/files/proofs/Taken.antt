@@ -58,6 +58,7 @@ joined s at m n a b e f = e ∙ ap (_++_ a) f ∙ sym (append-assoc a b (drop n 
 
 -- the number that was read stands there, and is what it may be
 pub record Read (w : Wanted) (s : List ℕ) (at v n : ℕ) : Type 0 where
+  pub number : numberAt s at ≡ N.Got v n
   pub fine : Fine w v
   pub bytes : Bytes s → Between s at (encode v) n
   pub past : Bytes s → n ≡ at + length (encode v)
@@ -70,7 +71,9 @@ field-read w s at v n e = by (numberAt s at) refl
     by (N.Got u m) q =
         let f : unless (judge w at u) u m ≡ go v n = rw q at e in
         let p = passed (judge w at u) u m v n f in
-        rw (← p .same, ← p .place) record {
+        rw (← p .same, ← p .place)
+        record {
+          number = q;
           fine = good-fine w at u (p .fine);
           bytes = λ bs. stands s at u m bs q .bytes;
           past = λ bs. stands s at u m bs q .past;
