@@ -1,0 +1,104 @@
+ghost use Prim.Native.Nat.{suc, _<_, _≤_};
+ghost use mathlib.Core.Path.{_≡_};
+ghost use mathlib.Core.List.{[], _∷_, _++_, map};
+ghost use lib.ListN.{length};
+ghost use Rattle.lists.specs.Lists.{total};
+ghost use Rattle.table.specs.Memory.{usedRows};
+ghost use Rattle.files.specs.Promises.{PutAt};
+ghost use Rattle.sheet.specs.Text.{decimal, line};
+ghost use Rattle.sheet.specs.Sheet.{verdictWords, boundLine};
+ghost use Rattle.sheet.specs.Promises.{Fits, rowText, partsOn, rowsText};
+use table::Row;
+use table::Table;
+use table::Verdict;
+
+// What is said of the room for a sheet, and how many bytes were written.
+pub struct Printed {
+    pub verdict: Verdict,
+    pub count: usize,
+}
+
+// Writes a word and the byte that follows it at `at` and on; where they end.
+fn put_word(out: &mut [u8], at: usize, word: &[u8], end: u8) -> usize
+    requires { ⌜ Fits (now word ++ (end ∷ [])) at (now out) ⌝ }
+    ensures { λ r. ⌜ PutAt (now (word .entry) ++ (end ∷ [])) at (now (out .entry)) r (now (out .exit)) ⌝ }
+{
+    let mut p = at;
+    let mut i = 0;
+    while i < word.len() {
+        out[p] = word[i];
+        p += 1;
+        i += 1;
+    }
+    out[p] = end;
+    p + 1
+}
+
+// Writes a number in decimal and the byte that follows it.
+fn put_decimal(out: &mut [u8], at: usize, v: usize, end: u8) -> usize
+    requires { ⌜ Fits (decimal v ++ (end ∷ [])) at (now out) ⌝ }
+    ensures { λ r. ⌜ PutAt (decimal v ++ (end ∷ [])) at (now (out .entry)) r (now (out .exit)) ⌝ }
+{
+    let mut digits = [0u8; 20];
+    let n = io::decimal(v as u64, &mut digits);
+    put_word(out, at, &digits[..n], end)
+}
+
+// Writes numbers as a line.
+fn put_numbers(out: &mut [u8], at: usize, numbers: &[u32]) -> usize
+    requires { ⌜ (0 < length (now numbers)) × Fits (line (map decimal (now numbers))) at (now out) ⌝ }
+    ensures { λ r. ⌜ PutAt (line (map decimal (now (numbers .entry)))) at (now (out .entry)) r (now (out .exit)) ⌝ }
+{
+    let last = numbers.len() - 1;
+    let mut p = at;
+    let mut i = 0;
+    while i < last {
+        p = put_decimal(out, p, numbers[i] as usize, b' ');
+        i += 1;
+    }
+    put_decimal(out, p, numbers[last] as usize, b'\n')
+}
+
+// Writes the end of a verdict line: `code C number M`.
+fn put_verdict(out: &mut [u8], at: usize, code: usize, number: usize) -> usize
+    requires { ⌜ Fits (line (verdictWords code number)) at (now out) ⌝ }
+    ensures { λ r. ⌜ PutAt (line (verdictWords code number)) at (now (out .entry)) r (now (out .exit)) ⌝ }
+{
+    let p = put_word(out, at, b"code", b' ');
+    let q = put_decimal(out, p, code, b' ');
+    let s = put_word(out, q, b"number", b' ');
+    put_decimal(out, s, number, b'\n')
+}
+
+// Writes the line of one bound, part `r` of a row counted from 0.
+fn put_bound(out: &mut [u8], at: usize, core: u32, row: Row, r: u32, bound: u32) -> usize
+    requires { ⌜ (r < 64) × Fits (boundLine core (row .id) (suc r) bound (row .deadline)) at (now out) ⌝ }
+    ensures { λ n. ⌜ PutAt (boundLine core (row .id) (suc r) bound (row .deadline)) at (now (out .entry)) n (now (out .exit)) ⌝ }
+{
+    let numbers = [core, row.id, r + 1, bound, row.deadline];
+    put_numbers(out, at, &numbers)
+}
+
+// Writes the lines of a row, one for each of its bounds.
+fn put_row(out: &mut [u8], at: usize, core: u32, row: Row, bounds: &[u32]) -> usize
+    requires { ⌜ (length (now bounds) ≤ 64) × Fits (rowText core row (now bounds)) at (now out) ⌝ }
+    ensures { λ r. ⌜ PutAt (rowText core row (now (bounds .entry))) at (now (out .entry)) r (now (out .exit)) ⌝ }
+{
+    let mut p = at;
+    let mut r = 0;
+    while r < bounds.len() {
+        p = put_bound(out, p, core, row, r as u32, bounds[r]);
+        r += 1;
+    }
+    p
+}
+
+// How many bounds a row has on a core: none where it is on another.
+fn parts_on(core: u32, row: Row) -> usize
+    ensures { λ r. ⌜ r ≡ partsOn core row ⌝ }
+{
+    if row.core == core {
+        return row.parts as usize;
+    }
+    0
+}
