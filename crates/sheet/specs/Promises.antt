@@ -9,8 +9,8 @@ use Rattle.sheet.specs.Text.{each}
 use Rattle.sheet.specs.Sheet.{boundLine}
 
 -- text has room in lent bytes from a place on
-abbrev pub Fits : List ℕ → ℕ → List ℕ → Type 0
-Fits text at out = at + length text ≤ length out
+pub record Fits (text : List ℕ) (at : ℕ) (out : List ℕ) : Type 0 where
+  pub room : at + length text ≤ length out
 
 -- a row's lines, from its bounds in order
 unfoldable pub rowText : ℕ → Row → List ℕ → List ℕ
