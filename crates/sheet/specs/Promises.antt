@@ -1,5 +1,5 @@
 -- How the text stands behind the functions on the way.
-use Prim.Native.Nat.{ℕ, suc, _+_, _≤_}
+use Prim.Native.Nat.{ℕ, _+_, _≤_}
 use mathlib.Core.List.{List, [], _∷_, _++_}
 use lib.ListN.{length, getD, take, drop}
 use lib.Dec.{eqb}
@@ -15,7 +15,7 @@ pub record Fits (text : List ℕ) (at : ℕ) (out : List ℕ) : Type 0 where
 -- a row's lines, from its bounds in order
 unfoldable pub rowText : ℕ → Row → List ℕ → List ℕ
 rowText core row bounds =
-    each (λ r. boundLine core (row .id) (suc r) (getD bounds r 0) (row .deadline)) 0 (length bounds)
+    each (λ r. boundLine core (row .id) (r + 1) (getD bounds r 0) (row .deadline)) 0 (length bounds)
 
 -- how many bounds a row has on a core: none where it is on another
 unfoldable pub partsOn : ℕ → Row → ℕ

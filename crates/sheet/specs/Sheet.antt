@@ -1,5 +1,5 @@
 -- Document 01, "Set A and other samples": what the report program prints for a file.
-use Prim.Native.Nat.{ℕ, suc}
+use Prim.Native.Nat.{ℕ, _+_}
 use mathlib.Core.Path.{_≡_}
 use mathlib.Core.List.{List, [], _∷_, _++_, map}
 use lib.ListN.{length, drop}
@@ -69,7 +69,7 @@ fileLine v = line (fileWord ∷ verdictWords (codeOf v) (numberOf v))
 
 -- the lines of one row among the rows of its core: a line for each part
 unfoldable pub rowLines : ℕ → List Task → Task → List ℕ
-rowLines core rows t = each (λ r. boundLine core (t .id) (suc r) (bound rows t r) (t .deadline)) 0 (parts t)
+rowLines core rows t = each (λ r. boundLine core (t .id) (r + 1) (bound rows t r) (t .deadline)) 0 (parts t)
 
 -- the lines of some of them, in row order
 unfoldable pub linesOf : ℕ → List Task → List Task → List ℕ

@@ -1,4 +1,4 @@
-ghost use Prim.Native.Nat.{suc, _<_, _≤_};
+ghost use Prim.Native.Nat.{_+_, _<_, _≤_};
 ghost use mathlib.Core.Path.{_≡_};
 ghost use mathlib.Core.List.{[], _∷_, _++_, map};
 ghost use lib.ListN.{length};
@@ -72,8 +72,8 @@ fn put_verdict(out: &mut [u8], at: usize, code: usize, number: usize) -> usize
 
 // Writes the line of one bound, part `r` of a row counted from 0.
 fn put_bound(out: &mut [u8], at: usize, core: u32, row: Row, r: u32, bound: u32) -> usize
-    requires { ⌜ (r < 64) × Fits (boundLine core (row .id) (suc r) bound (row .deadline)) at (now out) ⌝ }
-    ensures { λ n. ⌜ PutAt (boundLine core (row .id) (suc r) bound (row .deadline)) at (now (out .entry)) n (now (out .exit)) ⌝ }
+    requires { ⌜ (r < 1024) × Fits (boundLine core (row .id) (r + 1) bound (row .deadline)) at (now out) ⌝ }
+    ensures { λ n. ⌜ PutAt (boundLine core (row .id) (r + 1) bound (row .deadline)) at (now (out .entry)) n (now (out .exit)) ⌝ }
 {
     let numbers = [core, row.id, r + 1, bound, row.deadline];
     put_numbers(out, at, &numbers)
@@ -81,7 +81,7 @@ fn put_bound(out: &mut [u8], at: usize, core: u32, row: Row, r: u32, bound: u32)
 
 // Writes the lines of a row, one for each of its bounds.
 fn put_row(out: &mut [u8], at: usize, core: u32, row: Row, bounds: &[u32]) -> usize
-    requires { ⌜ (length (now bounds) ≤ 64) × Fits (rowText core row (now bounds)) at (now out) ⌝ }
+    requires { ⌜ (length (now bounds) ≤ 1024) × Fits (rowText core row (now bounds)) at (now out) ⌝ }
     ensures { λ r. ⌜ PutAt (rowText core row (now (bounds .entry))) at (now (out .entry)) r (now (out .exit)) ⌝ }
 {
     let mut p = at;

@@ -1,10 +1,9 @@
--- `sheet::put_bound` meets its contract. Assumes nothing.
+-- `sheet::put_bound` meets its contract: the five numbers of its line. Assumes nothing.
+use native.Mathlib.Omega.{arith}
 use borrow.Author.Needs.{needs}
+use Rattle.sheet.specs.Sheet.{boundLine}
 use Rattle.sheet.proofs.put_bound.Statement.{statement}
 use Rattle.sheet.proofs.put_bound.Tie as tie
-use Rattle.sheet.proofs.put_bound.Reads as reads
-use Rattle.sheet.proofs.put_bound.Lts as lts
-use Rattle.sheet.proofs.put_numbers.Reads as put-numbers-reads
 
 add-t8 : tie.Need-add-t8
 add-t8 c = search needs
@@ -13,13 +12,15 @@ slice-aggregate-put-numbers : tie.Need-slice-aggregate-put-numbers
 slice-aggregate-put-numbers c = search needs
 
 put-numbers-requires : tie.Need-put-numbers-requires
-put-numbers-requires c κs = ?
+unfolding boundLine
+put-numbers-requires c κs = (omega arith, c .before .before .before .pre .1)
 
 same-length : tie.Need-same-length
 same-length c = search needs
 
 returns : tie.Need-returns
-returns c = ?
+unfolding boundLine
+returns c = c .before .before .put-numbers .ensures
 
 pub put-bound-spec : {M : Type 1} → statement M
 put-bound-spec =
