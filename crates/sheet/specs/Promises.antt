@@ -3,10 +3,14 @@ use Prim.Native.Nat.{ℕ, _+_, _≤_}
 use mathlib.Core.List.{List, [], _∷_, _++_}
 use lib.ListN.{length, getD, take, drop}
 use lib.Dec.{eqb}
-use Rattle.lists.specs.Lists.{pick}
+use Rattle.lists.specs.Lists.{pick, total}
 use Rattle.table.specs.declared.Row.{Row}
+use Rattle.table.specs.declared.Table.{Table}
+use Rattle.table.specs.declared.Verdict.{Verdict}
+use Rattle.table.specs.Verdicts.{codeOf}
+use Rattle.table.specs.Memory.{usedRows}
 use Rattle.sheet.specs.Text.{each}
-use Rattle.sheet.specs.Sheet.{boundLine}
+use Rattle.sheet.specs.Sheet.{boundLine, coreLine}
 
 -- text has room in lent bytes from a place on
 pub record Fits (text : List ℕ) (at : ℕ) (out : List ℕ) : Type 0 where
@@ -25,3 +29,13 @@ partsOn core row = pick (eqb (row .core) core) (row .parts) 0
 unfoldable pub rowsText : ℕ → List Row → List ℕ → List ℕ
 rowsText core [] bounds = []
 rowsText core (r ∷ rs) bounds = rowText core r (take (partsOn core r) bounds) ++ rowsText core rs (drop (partsOn core r) bounds)
+
+-- what is printed of a core, from those and its verdict
+unfoldable pub coreBytes : ℕ → List Row → List ℕ → Verdict → List ℕ
+coreBytes core rows bounds v = pick (eqb (codeOf v) 11) [] (rowsText core rows bounds) ++ coreLine core v
+
+-- so many bounds are enough for a core's rows, and no more than a table's times
+pub record Enough (core : ℕ) (t : Table) (bounds : ℕ) : Type 0 where
+  pub rows : t .count ≤ 64
+  pub parts : total (partsOn core) (usedRows t) ≤ bounds
+  pub most : bounds ≤ 1024

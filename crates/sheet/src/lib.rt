@@ -2,12 +2,11 @@ ghost use Prim.Native.Nat.{_+_, _<_, _≤_};
 ghost use mathlib.Core.Path.{_≡_};
 ghost use mathlib.Core.List.{[], _∷_, _++_, map};
 ghost use lib.ListN.{length};
-ghost use Rattle.lists.specs.Lists.{total};
 ghost use Rattle.table.specs.Memory.{usedRows};
 ghost use Rattle.files.specs.Promises.{PutAt};
 ghost use Rattle.sheet.specs.Text.{decimal, line};
-ghost use Rattle.sheet.specs.Sheet.{verdictWords, boundLine};
-ghost use Rattle.sheet.specs.Promises.{Fits, rowText, partsOn, rowsText};
+ghost use Rattle.sheet.specs.Sheet.{verdictWords, boundLine, coreLine};
+ghost use Rattle.sheet.specs.Promises.{Fits, Enough, rowText, partsOn, rowsText, coreBytes};
 use table::Row;
 use table::Table;
 use table::Verdict;
@@ -101,4 +100,47 @@ fn parts_on(core: u32, row: Row) -> usize
         return row.parts as usize;
     }
     0
+}
+
+// Writes the lines of a core, from the table and the core's bounds.
+fn put_rows(out: &mut [u8], at: usize, core: u32, t: Table, bounds: &[u32]) -> usize
+    requires { ⌜ Enough core t (length (now bounds)) × Fits (rowsText core (usedRows t) (now bounds)) at (now out) ⌝ }
+    ensures { λ r. ⌜ PutAt (rowsText core (usedRows t) (now (bounds .entry))) at (now (out .entry)) r (now (out .exit)) ⌝ }
+{
+    let n = t.count;
+    let mut p = at;
+    let mut used = 0;
+    let mut i = 0;
+    while i < n {
+        let row = t.rows[i];
+        let end = used + parts_on(core, row);
+        p = put_row(out, p, core, row, &bounds[used..end]);
+        used = end;
+        i += 1;
+    }
+    p
+}
+
+// Writes the verdict line of a core.
+fn put_core_line(out: &mut [u8], at: usize, core: u32, v: Verdict) -> usize
+    requires { ⌜ Fits (coreLine core v) at (now out) ⌝ }
+    ensures { λ r. ⌜ PutAt (coreLine core v) at (now (out .entry)) r (now (out .exit)) ⌝ }
+{
+    let code = table::code_of(v);
+    let number = table::number_of(v);
+    let p = put_word(out, at, b"core", b' ');
+    let q = put_decimal(out, p, core as usize, b' ');
+    put_verdict(out, q, code as usize, number)
+}
+
+// Writes what is said of a core: with code 11 only the verdict.
+fn put_core(out: &mut [u8], at: usize, core: u32, t: Table, v: Verdict, bounds: &[u32]) -> usize
+    requires { ⌜ Enough core t (length (now bounds)) × Fits (coreBytes core (usedRows t) (now bounds) v) at (now out) ⌝ }
+    ensures { λ r. ⌜ PutAt (coreBytes core (usedRows t) (now (bounds .entry)) v) at (now (out .entry)) r (now (out .exit)) ⌝ }
+{
+    if table::code_of(v) == 11 {
+        return put_core_line(out, at, core, v);
+    }
+    let p = put_rows(out, at, core, t, bounds);
+    put_core_line(out, p, core, v)
 }
