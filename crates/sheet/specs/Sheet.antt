@@ -55,17 +55,17 @@ header = line (coreWord ∷ taskWord ∷ runnableWord ∷ boundWord ∷ deadline
 unfoldable pub boundLine : ℕ → ℕ → ℕ → ℕ → ℕ → List ℕ
 boundLine core id part bound deadline = line (map decimal (core ∷ id ∷ part ∷ bound ∷ deadline ∷ []))
 
--- `code C number M`
-abbrev pub verdictWords : ℕ → ℕ → List (List ℕ)
-verdictWords code number = codeWord ∷ decimal code ∷ numberWord ∷ decimal number ∷ []
+-- `code C number N`
+abbrev pub verdictWords : Verdict → List (List ℕ)
+verdictWords v = codeWord ∷ decimal (codeOf v) ∷ numberWord ∷ decimal (numberOf v) ∷ []
 
 -- the verdict line of a core
 unfoldable pub coreLine : ℕ → Verdict → List ℕ
-coreLine core v = line (coreWord ∷ decimal core ∷ verdictWords (codeOf v) (numberOf v))
+coreLine core v = line (coreWord ∷ decimal core ∷ verdictWords v)
 
 -- a file with a reading code prints only this
 unfoldable pub fileLine : Verdict → List ℕ
-fileLine v = line (fileWord ∷ verdictWords (codeOf v) (numberOf v))
+fileLine v = line (fileWord ∷ verdictWords v)
 
 -- the lines of one row among the rows of its core: a line for each part
 unfoldable pub rowLines : ℕ → List Task → Task → List ℕ

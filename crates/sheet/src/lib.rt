@@ -5,7 +5,7 @@ ghost use lib.ListN.{length};
 ghost use Rattle.table.specs.Memory.{usedRows};
 ghost use Rattle.files.specs.Promises.{PutAt};
 ghost use Rattle.sheet.specs.Text.{decimal, line};
-ghost use Rattle.sheet.specs.Sheet.{verdictWords, boundLine, coreLine};
+ghost use Rattle.sheet.specs.Sheet.{verdictWords, boundLine, coreLine, fileLine};
 ghost use Rattle.sheet.specs.Promises.{Fits, Enough, rowText, partsOn, rowsText, coreBytes};
 use table::Row;
 use table::Table;
@@ -58,13 +58,15 @@ fn put_numbers(out: &mut [u8], at: usize, numbers: &[u32]) -> usize
     put_decimal(out, p, numbers[last] as usize, b'\n')
 }
 
-// Writes the end of a verdict line: `code C number M`.
-fn put_verdict(out: &mut [u8], at: usize, code: usize, number: usize) -> usize
-    requires { ⌜ Fits (line (verdictWords code number)) at (now out) ⌝ }
-    ensures { λ r. ⌜ PutAt (line (verdictWords code number)) at (now (out .entry)) r (now (out .exit)) ⌝ }
+// Writes the end of a verdict line: `code C number N`.
+fn put_verdict(out: &mut [u8], at: usize, v: Verdict) -> usize
+    requires { ⌜ Fits (line (verdictWords v)) at (now out) ⌝ }
+    ensures { λ r. ⌜ PutAt (line (verdictWords v)) at (now (out .entry)) r (now (out .exit)) ⌝ }
 {
+    let code = table::code_of(v);
+    let number = table::number_of(v);
     let p = put_word(out, at, b"code", b' ');
-    let q = put_decimal(out, p, code, b' ');
+    let q = put_decimal(out, p, code as usize, b' ');
     let s = put_word(out, q, b"number", b' ');
     put_decimal(out, s, number, b'\n')
 }
@@ -126,11 +128,18 @@ fn put_core_line(out: &mut [u8], at: usize, core: u32, v: Verdict) -> usize
     requires { ⌜ Fits (coreLine core v) at (now out) ⌝ }
     ensures { λ r. ⌜ PutAt (coreLine core v) at (now (out .entry)) r (now (out .exit)) ⌝ }
 {
-    let code = table::code_of(v);
-    let number = table::number_of(v);
     let p = put_word(out, at, b"core", b' ');
     let q = put_decimal(out, p, core as usize, b' ');
-    put_verdict(out, q, code as usize, number)
+    put_verdict(out, q, v)
+}
+
+// Writes what is printed of a file with a reading code.
+fn put_file_line(out: &mut [u8], v: Verdict) -> usize
+    requires { ⌜ Fits (fileLine v) 0 (now out) ⌝ }
+    ensures { λ r. ⌜ PutAt (fileLine v) 0 (now (out .entry)) r (now (out .exit)) ⌝ }
+{
+    let p = put_word(out, 0, b"file", b' ');
+    put_verdict(out, p, v)
 }
 
 // Writes what is said of a core: with code 11 only the verdict.
