@@ -17,18 +17,27 @@ pub struct Printed {
     pub count: usize,
 }
 
-// Writes a word and the byte that follows it at `at` and on; where they end.
+// Writes bytes at `at` and on; where they end.
+fn put_bytes(out: &mut [u8], at: usize, bytes: &[u8]) -> usize
+    requires { ⌜ Fits (now bytes) at (now out) ⌝ }
+    ensures { λ r. ⌜ PutAt (now (bytes .entry)) at (now (out .entry)) r (now (out .exit)) ⌝ }
+{
+    let mut p = at;
+    let mut i = 0;
+    while i < bytes.len() {
+        out[p] = bytes[i];
+        p += 1;
+        i += 1;
+    }
+    p
+}
+
+// Writes a word and the byte that follows it.
 fn put_word(out: &mut [u8], at: usize, word: &[u8], end: u8) -> usize
     requires { ⌜ Fits (now word ++ (end ∷ [])) at (now out) ⌝ }
     ensures { λ r. ⌜ PutAt (now (word .entry) ++ (end ∷ [])) at (now (out .entry)) r (now (out .exit)) ⌝ }
 {
-    let mut p = at;
-    let mut i = 0;
-    while i < word.len() {
-        out[p] = word[i];
-        p += 1;
-        i += 1;
-    }
+    let p = put_bytes(out, at, word);
     out[p] = end;
     p + 1
 }
