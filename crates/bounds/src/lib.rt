@@ -65,7 +65,7 @@ pub fn search(periods: &[u32], costs: &[u32], base: u64, from: u64) -> Answer
 }
 
 // What a search found, 0 for nothing.
-fn value_of(answer: Answer) -> u64
+pub fn value_of(answer: Answer) -> u64
     ensures { λ r. ⌜ r ≡ value (answer .found) ⌝ }
 {
     let found = answer.found;

@@ -223,27 +223,15 @@ pub fn read(bytes: &[u8]) -> Loaded
     }
 }
 
-// Copies numbers to the front of `out`.
-fn copy(from: &[u32], out: &mut [u32])
-    requires { ⌜ length (now from) ≤ length (now out) ⌝ }
-    ensures { λ r. ⌜ now (out .exit) ≡ sets (now (out .entry)) 0 (now (from .entry)) ⌝ }
-{
-    let mut i = 0;
-    while i < from.len() {
-        out[i] = from[i];
-        i += 1;
-    }
-}
-
 // The numbers of one row, at `p` and on; where the next row's begin.
 fn put_row(row: Row, times: &[u32], out: &mut [u32], p: usize) -> usize
     requires { ⌜ p + (7 + length (now times)) ≤ length (now out) ⌝ }
     ensures { λ r. ⌜ PutAt (fieldsOf row ++ now (times .entry)) p (now (out .entry)) r (now (out .exit)) ⌝ }
 {
     let fields = table::fields_of(row);
-    copy(&fields, &mut out[p..]);
+    lists::copy(&fields, &mut out[p..]);
     let q = p + 7;
-    copy(times, &mut out[q..]);
+    lists::copy(times, &mut out[q..]);
     q + times.len()
 }
 

@@ -16,3 +16,4 @@ pub mod Periodic
 pub mod Computed
 pub mod MachineSample
 pub mod BegunSample
+pub mod Cores

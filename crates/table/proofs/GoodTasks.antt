@@ -124,7 +124,7 @@ module _ (t : Table) (rows : length (t .rows) ≡ 64) (times : length (t .times)
   all-found = found 0 0 (usedRows t) (t .times) (omega arith) (first-good _ _ no-fault)
 
   -- its rows are those of its tasks
-  rows-same : map rowOf (tasksOf t) ≡ usedRows t
+  pub rows-same : map rowOf (tasksOf t) ≡ usedRows t
   unfolding tasksOf
   rows-same = rows-found (usedRows t) (t .times) (all-found .enough)
 

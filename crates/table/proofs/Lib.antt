@@ -6,4 +6,7 @@ pub mod Heads
 pub mod Rows
 pub mod Stored
 pub mod GoodTasks
+pub mod EachGood
+pub mod Ahead
+pub mod Laid
 pub mod Seven

@@ -1,4 +1,4 @@
--- `files::copy` meets its contract. The invariant: what is still to be stored, stored where it goes, is the whole. Assumes nothing.
+-- `lists::copy` meets its contract. The invariant: what is still to be stored, stored where it goes, is the whole. Assumes nothing.
 use Prim.Native.Nat.{ℕ, suc, _+_, _-_, _≤_, _<_}
 use native.Mathlib.Numerals.{add-one}
 use native.Mathlib.Omega.{arith}
@@ -7,8 +7,8 @@ use mathlib.Core.Path.{_≡_, refl, sym, ap, _∙_}
 use mathlib.Core.List.{List}
 use lib.ListN.{length, getD, drop, set, length-set, drop-of-length-le}
 use lib.Seq.{sets, drop-cons}
-use Rattle.files.proofs.copy.Statement.{statement}
-use Rattle.files.proofs.copy.Tie as tie
+use Rattle.lists.proofs.copy.Statement.{statement}
+use Rattle.lists.proofs.copy.Tie as tie
 
 record Copying (from out₀ out : List ℕ) (i : ℕ) : Type 0 where
   fits : length from ≤ length out₀

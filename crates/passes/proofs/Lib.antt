@@ -1,0 +1,5 @@
+pub mod Fills
+pub mod Tops
+pub mod Chains
+pub mod Own
+pub mod PartsHeld

@@ -1,0 +1,66 @@
+-- Laying tasks in memory one after another: a row behind the rows, its times behind the times, zeros behind both. Assumes nothing.
+use Prim.Native.Nat.{ℕ, _+_, _-_, _≤_, _<_}
+use native.Mathlib.Omega.{arith}
+use mathlib.Core.Path.{_≡_, sym, ap, _∙_}
+use mathlib.Core.List.{List, [], _∷_, _++_, map, map-append}
+use lib.ListN.{length, take, drop, set, length-map, length-append, length-drop}
+use lib.Seq.{sets, length-take-le}
+use Rattle.lists.specs.Lists.{padTo}
+use Rattle.lists.proofs.Pads.{set-pad}
+use Rattle.lists.proofs.PadStores.{pad-length, sets-pad}
+use Rattle.lists.proofs.Stores.{sets-from}
+use Rattle.model.specs.Task.{Task}
+use Rattle.table.specs.declared.Row.{Row}
+use Rattle.table.specs.Memory.{zeroRow, rowOf, allTimes, stored}
+use Rattle.table.proofs.Stored.{all-times-snoc}
+
+-- `count` tasks that have `kept` times lie there
+pub record Laid (mine : List Task) (rows : List Row) (times : List ℕ) (count kept : ℕ) : Type 0 where
+  pub number : count ≡ length mine
+  pub total : kept ≡ length (allTimes mine)
+  pub rows-are : rows ≡ padTo zeroRow 64 (map rowOf mine)
+  pub times-are : times ≡ padTo 0 1024 (allTimes mine)
+
+module _ {mine : List Task} {rows : List Row} {times : List ℕ} {count kept : ℕ} (l : Laid mine rows times count kept) where
+  -- as a table they are stored
+  pub laid-stored : record { count = count; rows = rows; times = times } ≡ stored mine
+  laid-stored = λ k. record { count = l .number k; rows = l .rows-are k; times = l .times-are k }
+
+  -- there are always 1,024 times
+  pub times-long : kept ≤ 1024 → length times ≡ 1024
+  times-long h = ap length (l .times-are) ∙ pad-length 0 1024 (allTimes mine) (omega (arith, l .total))
+
+  -- the part behind those that are kept, as code lends it, is what is left
+  pub behind-length : kept ≤ 1024 → length (take (1024 - kept) (drop kept times)) ≡ 1024 - kept
+  behind-length h = length-take-le (1024 - kept) (drop kept times) (rw (length-drop, times-long h) (omega arith))
+
+  -- one task more, by its row and its times
+  module _ (u : Task) (r : Row) (own : List ℕ) (row : r ≡ rowOf u) (times-own : own ≡ u .times) where
+    -- the row is set behind the rows
+    rows-more : count < 64 → set rows count r ≡ padTo zeroRow 64 (map rowOf (mine ++ (u ∷ [])))
+    rows-more h =
+        let at-end : count ≡ length (map rowOf mine) = l .number ∙ sym (length-map mine rowOf) in
+        rw (l .rows-are, at-end, row, map-append rowOf mine (u ∷ []))
+        (set-pad zeroRow 64 (map rowOf mine) (rowOf u) (omega arith))
+
+    -- the times are stored in a part that is lent, and put back
+    times-more : (part : List ℕ) → kept + length own ≤ 1024 → part ≡ sets (take (1024 - kept) (drop kept times)) 0 own
+        → take kept times ++ (part ++ drop (1024 - kept) (drop kept times)) ≡ padTo 0 1024 (allTimes (mine ++ (u ∷ [])))
+    times-more part h e =
+        let long : length times ≡ 1024 = times-long (omega arith) in
+        let put : take kept times ++ (part ++ drop (1024 - kept) (drop kept times)) ≡ sets times kept own
+        = rw (e, ← long) (sets-from times kept own (omega arith)) in
+        let room : length (allTimes mine) + length (u .times) ≤ 1024 = omega (arith, l .total, ap length times-own) in
+        put ∙ rw (l .times-are, l .total, times-own, all-times-snoc) (sets-pad 0 1024 (allTimes mine) (u .times) room)
+
+    -- and the task lies behind the others
+    pub laid-more : (part : List ℕ) → count < 64 → kept + length own ≤ 1024 → part ≡ sets (take (1024 - kept) (drop kept times)) 0 own
+        → Laid (mine ++ (u ∷ [])) (set rows count r) (take kept times ++ (part ++ drop (1024 - kept) (drop kept times)))
+        (count + 1) (kept + r .parts)
+    laid-more part few room e =
+        record {
+          number = rw length-append (omega (arith, l .number));
+          total = rw (all-times-snoc, length-append) (omega (arith, l .total, ap (λ (x : Row). x .parts) row));
+          rows-are = rows-more few;
+          times-are = times-more part room e;
+        }
