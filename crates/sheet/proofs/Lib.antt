@@ -2,3 +2,4 @@ pub mod Puts
 pub mod Decimals
 pub mod Each
 pub mod Lines
+pub mod CoreTexts

@@ -2,11 +2,16 @@ ghost use Prim.Native.Nat.{_+_, _<_, _≤_};
 ghost use mathlib.Core.Path.{_≡_};
 ghost use mathlib.Core.List.{[], _∷_, _++_, map};
 ghost use lib.ListN.{length};
-ghost use Rattle.table.specs.Memory.{usedRows};
+ghost use Rattle.table.specs.Verdicts.{codeOf};
+ghost use Rattle.table.specs.Memory.{usedRows, tasksOf};
+ghost use Rattle.table.specs.Faults.{faultOf};
 ghost use Rattle.files.specs.Promises.{PutAt};
 ghost use Rattle.sheet.specs.Text.{decimal, line};
 ghost use Rattle.sheet.specs.Sheet.{verdictWords, boundLine, coreLine, fileLine};
+ghost use Rattle.sheet.specs.Sheet.{coreText, goodText, sheetText, Prints};
 ghost use Rattle.sheet.specs.Promises.{Fits, Enough, rowText, partsOn, rowsText, coreBytes};
+ghost use Rattle.analysis.specs.Analysis.{AnalysesTable};
+use analysis::Analysed;
 use table::Row;
 use table::Table;
 use table::Verdict;
@@ -161,4 +166,68 @@ fn put_core(out: &mut [u8], at: usize, core: u32, t: Table, v: Verdict, bounds: 
     }
     let p = put_rows(out, at, core, t, bounds);
     put_core_line(out, p, core, v)
+}
+
+fn analyse_table(t: Table, core: u32, room: &mut [u32]) -> Analysed
+    ensures { λ r. ⌜ AnalysesTable t core (now (room .entry)) r (now (room .exit)) ⌝ }
+{
+    let verdict = Verdict::Good;
+    Analysed { verdict, count: 0 }
+}
+
+// Works out a core of a good table and writes what is said of it.
+fn put_analysed(out: &mut [u8], at: usize, core: u32, t: Table) -> usize
+    requires { ⌜ (core ≤ 3) × (codeOf (faultOf t) ≡ 0) × Fits (coreText (tasksOf t) core) at (now out) ⌝ }
+    ensures { λ r. ⌜ PutAt (coreText (tasksOf t) core) at (now (out .entry)) r (now (out .exit)) ⌝ }
+{
+    let mut bounds = [0u32; 1024];
+    let a = analyse_table(t, core, &mut bounds);
+    let v = a.verdict;
+    put_core(out, at, core, t, v, &bounds)
+}
+
+// Writes the sheet of a good table: the header, then the cores 0 to 3.
+fn put_cores(out: &mut [u8], t: Table) -> usize
+    requires { ⌜ (codeOf (faultOf t) ≡ 0) × Fits (goodText (tasksOf t)) 0 (now out) ⌝ }
+    ensures { λ r. ⌜ PutAt (goodText (tasksOf t)) 0 (now (out .entry)) r (now (out .exit)) ⌝ }
+{
+    let mut p = put_word(out, 0, b"core task runnable bound deadline", b'\n');
+    let mut core: u32 = 0;
+    while core < 4 {
+        p = put_analysed(out, p, core, t);
+        core += 1;
+    }
+    p
+}
+
+// Writes the sheet of a file, read once.
+fn put_sheet(out: &mut [u8], bytes: &[u8]) -> usize
+    requires { ⌜ 29842 ≤ length (now out) ⌝ }
+    ensures { λ r. ⌜ PutAt (sheetText (now (bytes .entry))) 0 (now (out .entry)) r (now (out .exit)) ⌝ }
+{
+    let loaded = files::read(bytes);
+    let v = loaded.verdict;
+    if table::code_of(v) != 0 {
+        return put_file_line(out, v);
+    }
+    put_cores(out, loaded.table)
+}
+
+// Prints the sheet of a file: worked out first, and written only where it fits.
+pub fn sheet(bytes: &[u8], out: &mut [u8]) -> Printed
+    ensures { λ r. ⌜ Prints (now (bytes .entry)) (now (out .entry)) r (now (out .exit)) ⌝ }
+{
+    let mut text = [0u8; 29842];
+    let n = put_sheet(&mut text, bytes);
+    if out.len() < n {
+        return Printed {
+            verdict: Verdict::NoRoom(n),
+            count: 0,
+        };
+    }
+    put_bytes(out, 0, &text[..n]);
+    Printed {
+        verdict: Verdict::Good,
+        count: n,
+    }
 }
