@@ -11,7 +11,7 @@ use lib.Seq.{take-at, drop-at}
 use lib.Dec.{eqb, ltb}
 use Rattle.lists.specs.Lists.{pick, keep, total, listed}
 use Rattle.lists.proofs.Listed.{listed-length, listed-at}
-use Rattle.lists.proofs.Tests.{by-test}
+use Rattle.lists.proofs.Tests.{by-test, never}
 use Rattle.model.specs.Task.{Task, parts}
 use Rattle.model.specs.Bounds.{onCore, bound, rowBounds, CoreVerdict, passes, noWindow, misses, coreVerdict}
 use Rattle.table.specs.declared.Row.{Row}
@@ -59,6 +59,11 @@ row-same core rows t =
     (each-same _ _ 0 (parts t)
     (λ r a h. ap (λ (b : ℕ). boundLine core (t .id) (r + 1) b (t .deadline)) (listed-at (bound rows t) (parts t) r 0 (omega arith))))
 
+-- no bounds, no lines
+no-lines : (core : ℕ) (row : Row) → rowText core row [] ≡ []
+unfolding rowText each
+no-lines core row = refl
+
 -- the bounds of a row of the core stand in front
 module _ (rows : List Task) (t : Task) (others rest : List ℕ) where
   own-length : length (rowBounds rows t) ≡ length (t .times)
@@ -79,7 +84,7 @@ lines-same core rows [] rest = refl
 lines-same core rows (t ∷ ts) rest =
     by-test (eqb (t .core) core)
     (λ e. rw (e, own-front rows t _ rest, own-behind rows t _ rest, row-same core rows t) (ap (_++_ (rowLines core rows t)) (lines-same core rows ts rest)))
-    (λ e. rw e (unfold rowText each in lines-same core rows ts rest))
+    (λ e. rw (e, no-lines core (rowOf t)) (lines-same core rows ts rest))
 
 -- ---- the verdict
 
@@ -99,10 +104,7 @@ module _ (rows : List Task) (bounds : List ℕ) where
   unfolding named writes roomAfter
   bounds-written passes e = refl
   bounds-written (misses t) e = refl
-  bounds-written (noWindow t) e = absurd (let z : true ≡ false = e in not-so z)
-    where
-      not-so : true ≡ false → ⊥
-      not-so ()
+  bounds-written (noWindow t) e = absurd (never refl e)
 
 -- ---- the text
 
