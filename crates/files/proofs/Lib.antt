@@ -1,4 +1,5 @@
 pub mod Back
+pub mod Carried
 pub mod RoundTrips
 pub mod RowBytes
 pub mod Short

@@ -3,3 +3,4 @@ pub mod Decimals
 pub mod Each
 pub mod Lines
 pub mod CoreTexts
+pub mod Short
