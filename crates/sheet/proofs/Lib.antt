@@ -4,3 +4,4 @@ pub mod Each
 pub mod Lines
 pub mod CoreTexts
 pub mod Short
+pub mod Files
