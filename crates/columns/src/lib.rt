@@ -51,7 +51,7 @@ pub fn only_core(t: Table, core: u32) -> Table
 }
 
 // The sum of times.
-fn sum_of(times: &[u32]) -> u32
+pub fn sum_of(times: &[u32]) -> u32
     requires { ⌜ sum (now times) ≤ 4294967295 ⌝ }
     ensures { λ r. ⌜ r ≡ sum (now (times .entry)) ⌝ }
 {

@@ -1,28 +1,29 @@
 -- Reading stops only at a fault: a good answer is that of tasks that were read. Assumes nothing.
-use Prim.Native.Nat.{ℕ, zero, suc}
+use Prim.Native.Nat.{ℕ, zero, suc, _≤_}
 use native.Mathlib.Omega.{arith}
-use mathlib.Core.Path.{_≡_, refl, ap, _∙_}
+use mathlib.Core.Path.{_≡_, refl, ap, subst, _∙_}
 use mathlib.Core.Bool.{Bool, true, false}
 use mathlib.Core.List.{List, [], _∷_, _++_, map}
 use lib.ListN.{length, replicate}
 use lib.Dec.{ltb}
 use Rattle.lists.specs.Lists.{pick}
-use Rattle.lists.proofs.Tests.{by-test}
+use Rattle.lists.proofs.Tests.{by-test, never}
 use Rattle.numbers.specs.Numbers.{numberAt}
 use Rattle.numbers.specs.declared.Number.{Number}
 use Rattle.numbers.specs.declared.Number.the-variants as N
 use Rattle.model.specs.Task.{Task}
 use Rattle.table.specs.declared.Verdict.{Verdict}
 use Rattle.table.specs.declared.Verdict.the-variants.{Good, Trailing}
-use Rattle.table.specs.Verdicts.{good}
+use Rattle.table.specs.Verdicts.{codeOf, good}
 use Rattle.table.specs.Fields.{Wanted, field, head, time, rowFrom, judge}
 use Rattle.table.specs.Memory.{rowOf, taskOf, allTimes}
 use Rattle.table.specs.Clash.{clashOf}
+use Rattle.table.proofs.SmallCodes.{judge-small, clash-small}
 use Rattle.files.specs.Reading.{Step, stop, go, _then_, unless, asked, fieldAt, fieldsAt, rowAt, rowsAt, endAt, decode, loaded, readAnswer}
 
--- a step that, if it stops, does so at a fault
+-- a step that, if it stops, does so at a fault, with one of the codes of reading
 unfoldable AtFault : {A : Type 0} → Step A → Type 0
-AtFault (stop v) = good v ≡ false
+AtFault (stop v) = (good v ≡ false) × (codeOf v ≤ 8)
 AtFault (go a n) = Unit {0}
 
 module _ {A : Type 0} where
@@ -38,9 +39,9 @@ module _ {A : Type 0} where
   then-stops (go a n) f h g = g a n
 
   -- unless the verdict is good
-  unless-stops : (v : Verdict) (a : A) (n : ℕ) → AtFault (unless v a n)
+  unless-stops : (v : Verdict) (a : A) (n : ℕ) → codeOf v ≤ 8 → AtFault (unless v a n)
   unfolding unless AtFault
-  unless-stops v a n = by-test (good v) (λ t. rw t tt) (λ f. rw f f)
+  unless-stops v a n small = by-test (good v) (λ t. rw t tt) (λ f. rw f (f, small))
 
 -- a number
 field-stops : (w : Wanted) (s : List ℕ) (at : ℕ) → AtFault (fieldAt w s at)
@@ -48,9 +49,9 @@ unfolding fieldAt
 field-stops w s at = of-number (numberAt s at)
   where
     of-number : (x : Number) → AtFault (asked w s at x)
-    of-number (N.Got v n) = unfold asked in unless-stops (judge w at v) v n
-    of-number N.EndsEarly = unfold asked AtFault good in refl
-    of-number N.Malformed = unfold asked AtFault good in refl
+    of-number (N.Got v n) = unfold asked in unless-stops (judge w at v) v n (judge-small w at v)
+    of-number N.EndsEarly = unfold asked AtFault good in (refl, omega arith)
+    of-number N.Malformed = unfold asked AtFault good in (refl, omega arith)
 
 -- numbers one after another
 fields-stop : (ws : List Wanted) (done s : List ℕ) (at : ℕ) → AtFault (fieldsAt ws done s at)
@@ -79,8 +80,8 @@ unfolding endAt
 end-stops s ts at = of-test (ltb at (length s))
   where
     of-test : (b : Bool) → AtFault (pick b (stop (Trailing at)) (unless (clashOf (map rowOf ts)) ts at))
-    of-test true = unfold AtFault good in refl
-    of-test false = unless-stops (clashOf (map rowOf ts)) ts at
+    of-test true = unfold AtFault good in (refl, omega arith)
+    of-test false = unless-stops (clashOf (map rowOf ts)) ts at (clash-small (map rowOf ts))
 
 -- the whole file
 file-stops : (s : List ℕ) → AtFault (decode s)
@@ -88,6 +89,11 @@ unfolding decode
 file-stops s =
     then-stops (fieldAt (field 0 64) s 0) _ (field-stops (field 0 64) s 0)
     (λ count at. then-stops (rowsAt count [] s at) _ (rows-stop count [] s at) (λ ts n. end-stops s ts n))
+
+-- a refused read has one of the codes of reading, which is not 0
+pub stop-fault : (s : List ℕ) (v : Verdict) → decode s ≡ stop v → (good v ≡ false) × (codeOf v ≤ 8)
+unfolding AtFault
+stop-fault s v e = subst AtFault e (file-stops s)
 
 -- the tasks that a good answer is about
 pub record Tasks (s : List ℕ) : Type 0 where
@@ -103,5 +109,5 @@ good-tasks s e = of-step (decode s) refl (file-stops s) e
     of-step : (x : Step (List Task)) → decode s ≡ x → AtFault x → loaded x .verdict ≡ Good → Tasks s
     of-step (stop v) p h q =
         let fine : good v ≡ true = ap good q ∙ unfold good in refl in
-        absurd (let z : _≡_ {A = ℕ} 0 1 = cc in omega arith)
+        absurd (never fine (h .0))
     of-step (go ts n) p h q = record { tasks = ts; next = n; same = p }

@@ -17,3 +17,4 @@ pub mod Computed
 pub mod MachineSample
 pub mod BegunSample
 pub mod Cores
+pub mod Highest

@@ -10,3 +10,6 @@ pub mod EachGood
 pub mod Ahead
 pub mod Laid
 pub mod Seven
+pub mod NoClash
+pub mod GoodCore
+pub mod SmallCodes

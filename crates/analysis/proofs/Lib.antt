@@ -1,0 +1,6 @@
+pub mod Said
+pub mod Given
+pub mod Columned
+pub mod Loaded
+pub mod Tabled
+pub mod Theorems

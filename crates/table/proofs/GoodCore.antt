@@ -1,0 +1,128 @@
+-- The rows of a core of a table without a fault: no priority twice, and no cooperative row above a preemptive one. Assumes nothing.
+use Prim.Native.Nat.{ℕ, _≤_, _<_}
+use native.Mathlib.Nat.{le-antisymm}
+use native.Mathlib.Omega.{arith}
+use borrow.Author.Tests.{eq-eqb, eqb-true, ltb-false}
+use mathlib.Core.Path.{_≡_, refl, sym, ap, _∙_}
+use mathlib.Core.Bool.{Bool, true, false, or-true}
+use mathlib.Core.Logic.{⊎-elim}
+use mathlib.Core.List.{List, [], _∷_, map, Memᴰ·map}
+use lib.ListN.{length}
+use lib.Dec.{eqb, ltb}
+use Rattle.lists.specs.Lists.{_∈_, keep}
+use Rattle.lists.proofs.Tests.{by-test, never, either}
+use Rattle.lists.proofs.Keep.{kept, keep-length}
+use Rattle.model.specs.Task.{Task}
+use Rattle.model.specs.Rows.{Distinct, GoodCore}
+use Rattle.model.specs.Bounds.{onCore}
+use Rattle.model.proofs.Rows.{same-row}
+use Rattle.model.proofs.Cores.{core-good}
+use Rattle.table.specs.declared.Row.{Row}
+use Rattle.table.specs.declared.Rule.the-variants as R
+use Rattle.table.specs.declared.Table.{Table}
+use Rattle.table.specs.Verdicts.{codeOf, _orElse_}
+use Rattle.table.specs.Memory.{rowOf, tasksOf}
+use Rattle.table.specs.Clash.{coopAbove, breaks, broken, clashOf}
+use Rattle.table.specs.Faults.{faultOf}
+use Rattle.table.proofs.Codes.{first-good, then-good}
+use Rattle.table.proofs.GoodTasks.{GoodTasks, tasks-good}
+use Rattle.table.proofs.EachGood.{each-good}
+use Rattle.table.proofs.NoClash.{Apart, apart-two, rule-holds}
+
+-- two rows of a core have one core
+same-core : (c : ℕ) (a b : Task) → eqb (a .core) c ≡ true → eqb (b .core) c ≡ true → eqb (a .core) (b .core) ≡ true
+same-core c a b p q = eq-eqb (a .core) (b .core) (eqb-true (a .core) c p ∙ sym (eqb-true (b .core) c q))
+
+-- a later row of one core and one priority breaks the rule
+breaks-priority : (a b : Task) → eqb (a .core) (b .core) ≡ true → a .priority ≡ b .priority
+    → breaks R.SamePriority (rowOf b) (rowOf a) ≡ true
+unfolding breaks
+breaks-priority a b e q = rw (e, eq-eqb (a .priority) (b .priority) q)
+
+-- no priority twice
+core-distinct : (c : ℕ) (ts : List Task) → Apart (breaks R.SamePriority) (map rowOf ts) → Distinct (onCore c ts)
+unfolding onCore keep Distinct Apart
+core-distinct c [] d = tt
+core-distinct c (t ∷ ts) d =
+    by-test (eqb (t .core) c)
+    (λ e. rw e ((λ u m q. other u (kept _ ts u m) e q), core-distinct c ts (d .1)))
+    (λ e. rw e (core-distinct c ts (d .1)))
+  where
+    other : (u : Task) → (u ∈ ts) × (eqb (u .core) c ≡ true) → eqb (t .core) c ≡ true → t .priority ≡ u .priority → ⊥
+    other u k e q = never (breaks-priority t u (same-core c t u e (k .1)) q) (d .0 (rowOf u) (Memᴰ·map rowOf (k .0)))
+
+-- a cooperative row of one core that is higher than a preemptive one breaks the rule, whichever is earlier
+module _ (a b : Task) (core : eqb (a .core) (b .core) ≡ true) (back : eqb (b .core) (a .core) ≡ true) (pre : a .kind ≡ 0)
+    (coop : b .kind ≡ 1) where
+  -- the cooperative one is higher exactly if its priority is
+  crossed : coopAbove (rowOf b) (rowOf a) ≡ ltb (a .priority) (b .priority)
+  unfolding coopAbove
+  crossed = rw (coop, pre)
+
+  -- the cooperative one is later
+  later : breaks R.KindsCrossed (rowOf b) (rowOf a) ≡ false → ltb (a .priority) (b .priority) ≡ false
+  unfolding breaks
+  later e = by-test (ltb (a .priority) (b .priority)) (λ t. absurd (never (rw (core, crossed, t)) e)) (λ t. t)
+
+  -- the cooperative one is earlier
+  earlier : breaks R.KindsCrossed (rowOf a) (rowOf b) ≡ false → ltb (a .priority) (b .priority) ≡ false
+  unfolding breaks
+  earlier e =
+      by-test (ltb (a .priority) (b .priority))
+      (λ t. absurd (never (rw (back, crossed, t) (or-true (coopAbove (rowOf a) (rowOf b)))) e))
+      (λ t. t)
+
+-- the rows of a core of a good table
+module _ (c : ℕ) (ts : List Task) (few : length ts ≤ 64) (d : Distinct (onCore c ts)) (k : Apart (breaks R.KindsCrossed) (map rowOf ts)) where
+  -- a cooperative one is not above a preemptive one
+  not-above : (a b : Task) → a ∈ onCore c ts → b ∈ onCore c ts → a .kind ≡ 0 → b .kind ≡ 1 → b .priority ≤ a .priority
+  unfolding onCore
+  not-above a b m n pre coop =
+      let p = kept (λ t. eqb (t .core) c) ts a m in
+      let q = kept (λ t. eqb (t .core) c) ts b n in
+      let core = same-core c a b (p .1) (q .1) in
+      let back = same-core c b a (q .1) (p .1) in
+      ltb-false (a .priority) (b .priority)
+      (⊎-elim (λ e. absurd (omega (arith, ap (λ (r : Row). r .kind) e)))
+      (λ w. ⊎-elim (later a b core back pre coop) (earlier a b core back pre coop) w)
+      (apart-two (breaks R.KindsCrossed) (map rowOf ts) k (rowOf a) (rowOf b) (Memᴰ·map rowOf (p .0)) (Memᴰ·map rowOf (q .0))))
+
+  -- so it is below
+  core-ordered : (a b : Task) → a ∈ onCore c ts → b ∈ onCore c ts → a .kind ≡ 0 → b .kind ≡ 1 → b .priority < a .priority
+  core-ordered a b m n pre coop =
+      ⊎-elim (λ h. h)
+      (λ h.
+      (let same : a ≡ b = same-row (onCore c ts) d a b m n (le-antisymm h (not-above a b m n pre coop)) in
+      absurd (omega (arith, ap (λ (t : Task). t .kind) same))))
+      (either (b .priority) (a .priority))
+
+  -- no more rows than there are
+  core-few : length (onCore c ts) ≤ 64
+  unfolding onCore
+  core-few = omega (arith, keep-length (λ t. eqb (t .core) c) ts)
+
+-- tasks that do not clash
+module _ (ts : List Task) (g : GoodTasks ts) where
+  priorities-apart : Apart (breaks R.SamePriority) (map rowOf ts)
+  unfolding clashOf
+  priorities-apart = rule-holds R.SamePriority (map rowOf ts) (first-good _ _ (then-good (broken R.SameId (map rowOf ts)) _ (g .apart)))
+
+  kinds-apart : Apart (breaks R.KindsCrossed) (map rowOf ts)
+  unfolding clashOf
+  kinds-apart =
+      rule-holds R.KindsCrossed (map rowOf ts)
+      (then-good (broken R.SamePriority (map rowOf ts)) _ (then-good (broken R.SameId (map rowOf ts)) _ (g .apart)))
+
+-- the rows of each core of a table without a fault
+pub good-core : (t : Table) → length (t .rows) ≡ 64 → length (t .times) ≡ 1024 → codeOf (faultOf t) ≡ 0
+    → (c : ℕ) → GoodCore (onCore c (tasksOf t))
+good-core t rows times e c =
+    let g = tasks-good t rows times e in
+    let d = core-distinct c (tasksOf t) (priorities-apart (tasksOf t) g) in
+    let k = kinds-apart (tasksOf t) g in
+    record {
+      few = core-few c (tasksOf t) (g .few) d k;
+      good = core-good c (tasksOf t) (each-good t rows times e);
+      distinct = d;
+      ordered = core-ordered c (tasksOf t) (g .few) d k;
+    }
