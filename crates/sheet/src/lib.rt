@@ -10,8 +10,6 @@ ghost use Rattle.sheet.specs.Text.{decimal, line};
 ghost use Rattle.sheet.specs.Sheet.{verdictWords, boundLine, coreLine, fileLine};
 ghost use Rattle.sheet.specs.Sheet.{coreText, goodText, sheetText, Prints};
 ghost use Rattle.sheet.specs.Promises.{Fits, Enough, rowText, partsOn, rowsText, coreBytes};
-ghost use Rattle.analysis.specs.Analysis.{AnalysesTable};
-use analysis::Analysed;
 use table::Row;
 use table::Table;
 use table::Verdict;
@@ -168,20 +166,13 @@ fn put_core(out: &mut [u8], at: usize, core: u32, t: Table, v: Verdict, bounds: 
     put_core_line(out, p, core, v)
 }
 
-fn analyse_table(t: Table, core: u32, room: &mut [u32]) -> Analysed
-    ensures { λ r. ⌜ AnalysesTable t core (now (room .entry)) r (now (room .exit)) ⌝ }
-{
-    let verdict = Verdict::Good;
-    Analysed { verdict, count: 0 }
-}
-
 // Works out a core of a good table and writes what is said of it.
 fn put_analysed(out: &mut [u8], at: usize, core: u32, t: Table) -> usize
     requires { ⌜ (core ≤ 3) × (codeOf (faultOf t) ≡ 0) × Fits (coreText (tasksOf t) core) at (now out) ⌝ }
     ensures { λ r. ⌜ PutAt (coreText (tasksOf t) core) at (now (out .entry)) r (now (out .exit)) ⌝ }
 {
     let mut bounds = [0u32; 1024];
-    let a = analyse_table(t, core, &mut bounds);
+    let a = analysis::analyse_table(t, core, &mut bounds);
     let v = a.verdict;
     put_core(out, at, core, t, v, &bounds)
 }
