@@ -1,5 +1,6 @@
 pub mod Back
 pub mod Enough
+pub mod Carried
 pub mod RoundTrips
 pub mod RowBytes
 pub mod Short

@@ -1,0 +1,145 @@
+-- What is printed of a core, from the table's rows and the bounds that were written, is the core's text. Assumes nothing.
+use Prim.Native.Nat.{ℕ, zero, suc, _+_, _≤_, _<_}
+use native.Mathlib.Nat.{add-zero, zero-add}
+use native.Mathlib.Omega.{arith}
+use borrow.Author.Tests.{lt-ltb, le-ltb, eq-eqb}
+use mathlib.Core.Path.{_≡_, refl, sym, ap, ap₂, _∙_}
+use mathlib.Core.Bool.{Bool, true, false, _||_}
+use mathlib.Core.List.{List, [], _∷_, _++_, map, append-assoc}
+use lib.ListN.{length, getD, take, drop, length-append}
+use lib.Seq.{take-at, drop-at}
+use lib.Dec.{eqb, ltb}
+use Rattle.lists.specs.Lists.{pick, keep, total, listed}
+use Rattle.lists.proofs.Listed.{listed-length, listed-at}
+use Rattle.lists.proofs.Tests.{by-test, never}
+use Rattle.model.specs.Task.{Task, parts}
+use Rattle.model.specs.Bounds.{onCore, bound, rowBounds, CoreVerdict, passes, noWindow, misses, coreVerdict}
+use Rattle.table.specs.declared.Row.{Row}
+use Rattle.table.specs.declared.Table.{Table}
+use Rattle.table.specs.declared.Verdict.{Verdict}
+use Rattle.table.specs.Verdicts.{codeOf, _orElse_}
+use Rattle.table.specs.Memory.{rowOf, allTimes, usedRows, tasksOf}
+use Rattle.table.specs.Faults.{faultOf}
+use Rattle.table.proofs.Codes.{or-good}
+use Rattle.table.proofs.GoodTasks.{times-fit, count-few, rows-same, tasks-good}
+use Rattle.analysis.specs.declared.Analysed.{Analysed}
+use Rattle.analysis.specs.Analysis.{needed, boundsOf, coreBounds, named, coreSaid, writes, answered, roomAfter, Gives, tableSaid}
+use Rattle.sheet.specs.Text.{each}
+use Rattle.sheet.specs.Sheet.{boundLine, coreLine, rowLines, linesOf, coreTextOf, coreText}
+use Rattle.sheet.specs.Promises.{rowText, partsOn, rowsText, coreBytes, Enough}
+use Rattle.sheet.proofs.Each.{each-same}
+
+-- ---- how many bounds there are
+
+-- as many as the parts of the core's rows
+pub parts-needed : (core : ℕ) (ts : List Task) → total (partsOn core) (map rowOf ts) ≡ needed (onCore core ts)
+unfolding partsOn needed onCore keep total parts
+parts-needed core [] = refl
+parts-needed core (t ∷ ts) =
+    by-test (eqb (t .core) core)
+    (λ e. rw e (ap (_+_ (length (t .times))) (parts-needed core ts)))
+    (λ e. rw e (zero-add _ ∙ parts-needed core ts))
+
+-- no more than there are times
+pub needed-fits : (core : ℕ) (ts : List Task) → needed (onCore core ts) ≤ length (allTimes ts)
+unfolding needed onCore keep total parts allTimes
+needed-fits core [] = omega arith
+needed-fits core (t ∷ ts) =
+    by-test (eqb (t .core) core)
+    (λ e. rw e (omega (arith, length-append (t .times) (allTimes ts), needed-fits core ts)))
+    (λ e. rw e (omega (arith, length-append (t .times) (allTimes ts), needed-fits core ts)))
+
+-- ---- the lines
+
+-- a row's lines are those of its own bounds
+row-same : (core : ℕ) (rows : List Task) (t : Task) → rowText core (rowOf t) (rowBounds rows t) ≡ rowLines core rows t
+unfolding rowText rowLines rowBounds
+row-same core rows t =
+    rw (listed-length (bound rows t) (parts t))
+    (each-same _ _ 0 (parts t)
+    (λ r a h. ap (λ (b : ℕ). boundLine core (t .id) (r + 1) b (t .deadline)) (listed-at (bound rows t) (parts t) r 0 (omega arith))))
+
+-- no bounds, no lines
+no-lines : (core : ℕ) (row : Row) → rowText core row [] ≡ []
+unfolding rowText each
+no-lines core row = refl
+
+-- the bounds of a row of the core stand in front
+module _ (rows : List Task) (t : Task) (others rest : List ℕ) where
+  own-length : length (rowBounds rows t) ≡ length (t .times)
+  unfolding rowBounds parts
+  own-length = listed-length (bound rows t) (parts t)
+
+  own-front : take (length (t .times)) (rowBounds rows t ++ others ++ rest) ≡ rowBounds rows t
+  own-front = rw append-assoc (take-at (rowBounds rows t) (others ++ rest) (length (t .times)) own-length)
+
+  own-behind : drop (length (t .times)) (rowBounds rows t ++ others ++ rest) ≡ others ++ rest
+  own-behind = rw append-assoc (drop-at (rowBounds rows t) (others ++ rest) (length (t .times)) own-length)
+
+-- the core's lines, from the rows of all cores and its bounds, whatever stands behind them
+pub lines-same : (core : ℕ) (rows ts : List Task) (rest : List ℕ)
+    → rowsText core (map rowOf ts) (boundsOf rows (onCore core ts) ++ rest) ≡ linesOf core rows (onCore core ts)
+unfolding rowsText partsOn onCore keep boundsOf linesOf
+lines-same core rows [] rest = refl
+lines-same core rows (t ∷ ts) rest =
+    by-test (eqb (t .core) core)
+    (λ e. rw (e, own-front rows t _ rest, own-behind rows t _ rest, row-same core rows t) (ap (_++_ (rowLines core rows t)) (lines-same core rows ts rest)))
+    (λ e. rw (e, no-lines core (rowOf t)) (lines-same core rows ts rest))
+
+-- ---- the verdict
+
+-- where there is room, it is what is said of the core
+pub said-alike : (core : ℕ) (rows : List Task) (room : ℕ) → needed rows ≤ room → coreSaid core rows room ≡ coreSaid core rows (needed rows)
+unfolding coreSaid
+said-alike core rows room h = rw (le-ltb room (needed rows) h, le-ltb (needed rows) (needed rows) (omega arith))
+
+-- on one of the four cores: good, or code 11 or 12
+pub said-is : (core : ℕ) (rows : List Task) → core ≤ 3 → coreSaid core rows (needed rows) ≡ named (coreVerdict rows)
+unfolding coreSaid
+said-is core rows h = rw (le-ltb 3 core h, le-ltb (needed rows) (needed rows) (omega arith))
+
+-- without code 11 the bounds are written
+module _ (rows : List Task) (bounds : List ℕ) where
+  bounds-written : (v : CoreVerdict) → eqb (codeOf (named v)) 11 ≡ false → roomAfter (named v) rows bounds ≡ coreBounds rows ++ drop (needed rows) bounds
+  unfolding named writes roomAfter
+  bounds-written passes e = refl
+  bounds-written (misses t) e = refl
+  bounds-written (noWindow t) e = absurd (never refl e)
+
+-- ---- the text
+
+module _ (core : ℕ) (tasks : List Task) (bounds : List ℕ) where
+  -- by the verdict and what it leaves of the bounds
+  text-of : (v : CoreVerdict)
+      → coreBytes core (map rowOf tasks) (roomAfter (named v) (onCore core tasks) bounds) (named v) ≡ coreTextOf core (onCore core tasks) (named v)
+  unfolding coreBytes coreTextOf
+  text-of v =
+      by-test (eqb (codeOf (named v)) 11) (λ e. rw e)
+      (λ e. rw (e, bounds-written (onCore core tasks) bounds v e, lines-same core (onCore core tasks) tasks _))
+
+-- a table without a fault, and what analysis gives for one of its cores
+module _ (t : Table) (rows : length (t .rows) ≡ 64) (times : length (t .times) ≡ 1024) (e : codeOf (faultOf t) ≡ 0) (core : ℕ) (h : core ≤ 3) where
+  -- there is room for its bounds
+  room-fits : needed (onCore core (tasksOf t)) ≤ 1024
+  room-fits = omega (arith, needed-fits core (tasksOf t), times-fit 0 (tasksOf t) (omega arith) (tasks-good t rows times e .fine))
+
+  pub enough : (bounds : ℕ) → bounds ≡ 1024 → Enough core t bounds
+  enough bounds long =
+      record {
+        rows = count-few t rows times e;
+        parts = rw (← rows-same t rows times e, parts-needed core (tasksOf t)) (omega (arith, room-fits));
+        most = omega arith;
+      }
+
+  pub text-is : (bounds : List ℕ) → length bounds ≡ 1024 → (a : Analysed) (bounds′ : List ℕ)
+      → Gives (tableSaid t core (length bounds)) (onCore core (tasksOf t)) bounds a bounds′
+      → coreBytes core (usedRows t) bounds′ (a .verdict) ≡ coreText (tasksOf t) core
+  unfolding tableSaid answered coreText
+  text-is bounds long a bounds′ g =
+      let mine : List Task = onCore core (tasksOf t) in
+      let fits : needed mine ≤ length bounds = omega (arith, room-fits) in
+      let said : tableSaid t core (length bounds) ≡ coreSaid core mine (needed mine)
+      = or-good (faultOf t) _ e ∙ said-alike core mine (length bounds) fits in
+      let is : tableSaid t core (length bounds) ≡ named (coreVerdict mine) = said ∙ said-is core mine h in
+      rw (ap (λ (x : Analysed). x .verdict) (g .answer), g .left, is, ← rows-same t rows times e)
+      (text-of core (tasksOf t) bounds (coreVerdict mine) ∙ rw (said-is core mine h))

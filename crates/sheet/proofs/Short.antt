@@ -1,0 +1,198 @@
+-- How long the printed text is at most. Assumes nothing.
+use Prim.Native.Nat.{ℕ, zero, suc, _+_, _-_, _*_, _^_, _≤_, _<_, max}
+use native.Mathlib.Nat.{add-mul, zero-mul, zero-add}
+use native.Mathlib.Omega.{arith}
+use mathlib.Core.Path.{_≡_, refl, sym, ap, _∙_}
+use mathlib.Core.Bool.{Bool, true, false}
+use mathlib.Core.List.{List, [], _∷_, _++_, map, List·Memᴰ·head, List·Memᴰ·tail}
+use lib.ListN.{length, length-append}
+use lib.Dec.{eqb, lit<, lit≤}
+use Rattle.lists.specs.Lists.{pick, _∈_, keep, total}
+use Rattle.lists.proofs.Tests.{by-test}
+use Rattle.lists.proofs.Keep.{kept}
+use Rattle.model.specs.declared.Found.{Found}
+use Rattle.model.specs.declared.Found.the-variants.{At, Nothing}
+use Rattle.model.specs.Least.{least, value, maxBelow, Says}
+use Rattle.model.specs.Task.{Task, parts}
+use Rattle.model.specs.Rows.{GoodTask}
+use Rattle.model.specs.Bounds.{onCore, limit, cooperative, preemptiveEnd, start, endFrom, finish, response, bound, jobs}
+use Rattle.model.specs.Bounds.{CoreVerdict, passes, noWindow, misses, coreVerdict}
+use Rattle.model.specs.Verdict.{Judged}
+use Rattle.model.proofs.Least.{least-says}
+use Rattle.model.proofs.Verdict.{verdict-says}
+use Rattle.table.specs.declared.Verdict.{Verdict}
+use Rattle.table.specs.declared.Verdict.the-variants.{Good, EndsEarly, Malformed, OutOfRange, IdTwice, PriorityTwice}
+use Rattle.table.specs.declared.Verdict.the-variants.{KindsCrossed, TooManyTimes, Trailing, NoSuchCore, NoRoom, NoWindow, Missed}
+use Rattle.table.specs.Verdicts.{codeOf, numberOf}
+use Rattle.table.specs.Memory.{rowOf, allTimes}
+use Rattle.analysis.specs.Analysis.{needed, named, coreSaid}
+use Rattle.sheet.specs.Text.{decimal, line, each}
+use Rattle.sheet.specs.Sheet.{boundLine, coreLine, fileLine, header, rowLines, linesOf, coreTextOf, coreText, goodText}
+use Rattle.sheet.specs.Promises.{partsOn}
+use Rattle.sheet.proofs.Decimals.{decimal-short}
+use Rattle.sheet.proofs.Each.{each-short}
+use Rattle.sheet.proofs.CoreTexts.{parts-needed, said-is}
+
+-- ---- a bound is at most the limit
+
+-- what is found is
+value-most : (g : ℕ → ℕ) (from : ℕ) (x : Found) → Says g from limit x → value x ≤ limit
+unfolding value
+value-most g from (At x) s = s .within
+value-most g from Nothing s = omega arith
+
+least-most : (g : ℕ → ℕ) (from : ℕ) → value (least g from limit) ≤ limit
+least-most g from = value-most g from (least g from limit) (least-says g from limit)
+
+-- so is the largest of some
+max-most : (h : ℕ → ℕ) (n m : ℕ) → ((k : ℕ) → h k ≤ m) → maxBelow h n ≤ m
+unfolding maxBelow
+max-most h zero m e = omega arith
+max-most h (suc n) m e = omega (arith, max-most h n m e, e n)
+
+module _ (rows : List Task) (t : Task) (r : ℕ) where
+  end-most : (j : ℕ) (x : Found) → value (endFrom rows t r j x) ≤ limit
+  unfolding endFrom
+  end-most j (At s) = least-most _ _
+  end-most j Nothing = unfold value in omega arith
+
+  finish-most : (j : ℕ) → value (finish rows t r j) ≤ limit
+  unfolding finish preemptiveEnd
+  finish-most j =
+      by-test (cooperative t) (λ e. rw (e, finish) (end-most j (start rows t r j)))
+      (λ e. rw (e, finish) (least-most _ _))
+
+  bound-most : bound rows t r ≤ 16777215
+  unfolding bound response limit
+  bound-most = max-most _ (jobs rows t) 16777215 (λ j. omega (arith, finish-most j))
+
+-- ---- lines
+
+-- a word and a space
+line-more : (w v : List ℕ) (ws : List (List ℕ)) → length (line (w ∷ v ∷ ws)) ≡ length w + 1 + length (line (v ∷ ws))
+unfolding line
+line-more w v ws = length-append (w ++ (32 ∷ [])) (line (v ∷ ws)) ∙ rw (length-append w (32 ∷ []))
+
+-- the last word
+line-last : (w : List ℕ) → length (line (w ∷ [])) ≡ length w + 1
+unfolding line
+line-last w = length-append w (10 ∷ [])
+
+-- core 1 digit, id 5, part 2, bound and deadline 8 each, and five bytes behind them
+bound-short : (core id part bound deadline : ℕ) → core < 10 → id < 100000 → part < 100 → bound < 100000000 → deadline < 100000000
+    → length (boundLine core id part bound deadline) ≤ 29
+unfolding boundLine
+bound-short core id part bound deadline c i p b d =
+    rw (line-more (decimal core), line-more (decimal id), line-more (decimal part), line-more (decimal bound), line-last)
+    (omega (arith, decimal-short 0 core c, decimal-short 4 id i, decimal-short 1 part p, decimal-short 7 bound b, decimal-short 7 deadline d))
+
+-- two digits of code
+code-short : (v : Verdict) → codeOf v < 100
+code-short Good = lit< tt
+code-short (EndsEarly n) = lit< tt
+code-short (Malformed n) = lit< tt
+code-short (OutOfRange n) = lit< tt
+code-short (IdTwice n) = lit< tt
+code-short (PriorityTwice n) = lit< tt
+code-short (KindsCrossed n) = lit< tt
+code-short (TooManyTimes n) = lit< tt
+code-short (Trailing n) = lit< tt
+code-short (NoSuchCore n) = lit< tt
+code-short (NoRoom n) = lit< tt
+code-short (NoWindow n) = lit< tt
+code-short (Missed n) = lit< tt
+
+-- `core N code C number M`: a core's verdict carries an id
+core-line-short : (core : ℕ) (v : Verdict) → core < 10 → numberOf v < 100000 → length (coreLine core v) ≤ 28
+unfolding coreLine
+core-line-short core v c n =
+    rw (line-more, line-more (decimal core), line-more, line-more (decimal (codeOf v)), line-more, line-last)
+    (omega (arith, decimal-short 0 core c, decimal-short 1 (codeOf v) (code-short v), decimal-short 4 (numberOf v) n))
+
+-- `file code C number N`: a reading code carries at most twenty digits
+pub file-line-short : (v : Verdict) → numberOf v < 10 ^ 20 → length (fileLine v) ≤ 41
+unfolding fileLine
+file-line-short v n =
+    rw (line-more, line-more, line-more (decimal (codeOf v)), line-more, line-last)
+    (omega (arith, decimal-short 1 (codeOf v) (code-short v), decimal-short 19 (numberOf v) n))
+
+-- ---- cores
+
+-- all rows are good
+abbrev AllGood : List Task → Type 0
+AllGood ts = (u : Task) → u ∈ ts → GoodTask u
+
+-- a row: a line for each part
+row-short : (core : ℕ) (rows : List Task) (t : Task) → core ≤ 3 → GoodTask t → length (rowLines core rows t) ≤ parts t * 29
+unfolding rowLines
+row-short core rows t c g =
+    each-short _ 29 0 (parts t)
+    (λ r a h. bound-short core (t .id) (r + 1) (bound rows t r) (t .deadline) (omega arith) (omega (arith, g .id .most))
+    (omega (arith, g .count .most)) (omega (arith, bound-most rows t r)) (omega (arith, g .deadline .most)))
+
+-- rows one after another
+lines-short : (core : ℕ) (rows ts : List Task) → core ≤ 3 → AllGood ts → length (linesOf core rows ts) ≤ needed ts * 29
+unfolding linesOf needed total
+lines-short core rows [] c g = omega arith
+lines-short core rows (t ∷ ts) c g =
+    let here = row-short core rows t c (g t (List·Memᴰ·head refl)) in
+    let others = lines-short core rows ts c (λ u m. g u (List·Memᴰ·tail m)) in
+    rw (length-append (rowLines core rows t) (linesOf core rows ts)) (omega (arith, add-mul (parts t) (total parts ts) 29))
+
+-- the task that a verdict names is one of the rows
+named-small : (rows : List Task) → AllGood rows → (v : CoreVerdict) → Judged rows v → numberOf (named v) < 100000
+unfolding named
+named-small rows g passes j = lit< tt
+named-small rows g (noWindow t) j = omega (arith, g t (j .row) .id .most)
+named-small rows g (misses t) j = omega (arith, g t (j .row) .id .most)
+
+-- a core: its lines, where there are any, and its verdict
+core-short : (tasks : List Task) (core : ℕ) → core ≤ 3 → AllGood tasks → length (coreText tasks core) ≤ needed (onCore core tasks) * 29 + 28
+unfolding coreText coreTextOf onCore
+core-short tasks core c g =
+    let rows : List Task = keep (λ t. eqb (t .core) core) tasks in
+    let mine : AllGood rows = λ u m. g u (kept _ tasks u m .0) in
+    let v = named (coreVerdict rows) in
+    let verdict = core-line-short core v (omega arith) (named-small rows mine (coreVerdict rows) (verdict-says rows)) in
+    let lines = lines-short core rows rows c mine in
+    rw (said-is core rows c)
+    (by-test (eqb (codeOf v) 11) (λ e. rw e (omega arith))
+    (λ e. rw (e, length-append (linesOf core rows rows) (coreLine core v)) (omega arith)))
+
+-- ---- the whole
+
+-- a row is on one of the four cores
+shares : (core n : ℕ) → core ≤ 3 → pick (eqb core 0) n 0 + pick (eqb core 1) n 0 + pick (eqb core 2) n 0 + pick (eqb core 3) n 0 ≤ n
+shares zero n h = omega arith
+shares (suc zero) n h = omega arith
+shares (suc (suc zero)) n h = omega arith
+shares (suc (suc (suc zero))) n h = omega arith
+shares (suc (suc (suc (suc c)))) n h = absurd (omega arith)
+
+-- rows one after another
+rows-four : (ts : List Task) → AllGood ts
+    → total (partsOn 0) (map rowOf ts) + total (partsOn 1) (map rowOf ts) + total (partsOn 2) (map rowOf ts) + total (partsOn 3) (map rowOf ts)
+    ≤ length (allTimes ts)
+unfolding total partsOn allTimes
+rows-four [] g = omega arith
+rows-four (t ∷ ts) g =
+    let here = shares (t .core) (length (t .times)) (g t (List·Memᴰ·head refl) .core .most) in
+    rw (length-append (t .times) (allTimes ts)) (omega (arith, rows-four ts (λ u m. g u (List·Memᴰ·tail m))))
+
+-- how many bounds the four cores have together
+onFour : List Task → ℕ
+onFour ts = needed (onCore 0 ts) + needed (onCore 1 ts) + needed (onCore 2 ts) + needed (onCore 3 ts)
+
+-- no more than there are times
+four : (ts : List Task) → AllGood ts → onFour ts ≤ length (allTimes ts)
+unfolding onFour
+four ts g = omega (arith, parts-needed 0 ts, parts-needed 1 ts, parts-needed 2 ts, parts-needed 3 ts, rows-four ts g)
+
+-- header 34, at most 1,024 lines of 29, four verdicts of 28
+pub good-short : (ts : List Task) → AllGood ts → length (allTimes ts) ≤ 1024 → length (goodText ts) ≤ 29842
+unfolding goodText each header line onFour
+good-short ts g few =
+    let c = coreText ts in
+    let short : (core : ℕ) → core ≤ 3 → length (c core) ≤ needed (onCore core ts) * 29 + 28 = λ core h. core-short ts core h g in
+    rw (length-append header, length-append (c 0), length-append (c 1), length-append (c 2), length-append (c 3))
+    (omega (arith, four ts g, short 0 (lit≤ tt), short 1 (lit≤ tt), short 2 (lit≤ tt), short 3 (lit≤ tt)))

@@ -1,0 +1,89 @@
+-- `sheet::put_core` meets its contract: with code 11 only the verdict, else the lines and the verdict. Assumes nothing.
+use Prim.Native.Nat.{ℕ}
+use borrow.Author.Needs.{needs}
+use borrow.Author.Tests.{eq-eqb, ne-eqb}
+use mathlib.Core.Path.{_≡_, sym, _∙_}
+use mathlib.Core.List.{List, _++_}
+use Rattle.table.specs.declared.Row.{Row}
+use Rattle.table.specs.declared.Verdict.{Verdict}
+use Rattle.table.specs.Verdicts.{codeOf}
+use Rattle.files.specs.Promises.{PutAt}
+use Rattle.sheet.specs.Sheet.{coreLine}
+use Rattle.sheet.specs.Promises.{Fits, rowsText, coreBytes}
+use Rattle.sheet.proofs.Puts.{starts, room, turn, last}
+use Rattle.sheet.proofs.put_core.Statement.{statement}
+use Rattle.sheet.proofs.put_core.Tie as tie
+
+module _ (core : ℕ) (rows : List Row) (bounds : List ℕ) (v : Verdict) {code : ℕ} (own : code ≡ codeOf v) where
+  only : code ≡ 11 → coreBytes core rows bounds v ≡ coreLine core v
+  unfolding coreBytes
+  only e = rw (eq-eqb (codeOf v) 11 (sym own ∙ e))
+
+  only-fits : {at : ℕ} {out : List ℕ} → code ≡ 11 → Fits (coreBytes core rows bounds v) at out → Fits (coreLine core v) at out
+  only-fits e h = rw (only e) at h
+
+  only-put : {at q : ℕ} {out out′ : List ℕ} → code ≡ 11 → PutAt (coreLine core v) at out q out′ → PutAt (coreBytes core rows bounds v) at out q out′
+  only-put e put = rw (only e) put
+
+  both : (code ≡ 11 → ⊥) → coreBytes core rows bounds v ≡ rowsText core rows bounds ++ coreLine core v
+  unfolding coreBytes
+  both h = rw (ne-eqb (codeOf v) 11 (λ e. h (own ∙ e)))
+
+code-of-requires : tie.Need-code-of-requires
+code-of-requires c κs = search needs
+
+put-core-line-requires : tie.Need-put-core-line-requires
+put-core-line-requires c κs =
+    only-fits _ _ _ _ (c .before .before .code-of .ensures) (c .before .if1 .taken) (c .before .before .before .before .before .pre .1)
+
+same-length : tie.Need-same-length
+same-length c = search needs
+
+returns : tie.Need-returns
+returns c =
+    let c2 = c .before .before in
+    let c4 = c2 .before .before in
+    let c5 = c4 .before in
+    only-put _ _ _ _ (c5 .code-of .ensures) (c4 .if1 .taken) (c2 .put-core-line .ensures)
+
+put-rows-requires : tie.Need-put-rows-requires
+put-rows-requires c κs =
+    let c1 = c .before in
+    let c2 = c1 .before in
+    let c5 = c2 .before .before .before in
+    (c5 .pre .0, room (starts _ _ _ (c5 .pre .1)) (rowsText _ _ _) _ (both _ _ _ _ (c2 .code-of .ensures) (c1 .if1 .left)))
+
+put-core-line-requires-2 : tie.Need-put-core-line-requires-2
+put-core-line-requires-2 c κs =
+    let c3 = c .before .before .before in
+    let c5 = c3 .before .before in
+    let c6 = c5 .before in
+    let c9 = c6 .before .before .before in
+    let k = starts _ _ _ (c9 .pre .1) in
+    turn k (rowsText _ _ _) _ (both _ _ _ _ (c6 .code-of .ensures) (c5 .if1 .left)) (c3 .put-rows .ensures) .fits
+
+same-length-2 : tie.Need-same-length-2
+same-length-2 c = search needs
+
+returns-2 : tie.Need-returns-2
+returns-2 c =
+    let c2 = c .before .before in
+    let c6 = c2 .before .before .before .before in
+    let c8 = c6 .before .before in
+    let c9 = c8 .before in
+    let c12 = c9 .before .before .before in
+    let k = starts _ _ _ (c12 .pre .1) in
+    last (turn k (rowsText _ _ _) _ (both _ _ _ _ (c9 .code-of .ensures) (c8 .if1 .left)) (c6 .put-rows .ensures)) (c2 .put-core-line2 .ensures)
+
+pub put-core-spec : {M : Type 1} → statement M
+put-core-spec =
+    tie.close
+    (tie.spec
+    code-of-requires
+    put-core-line-requires
+    same-length
+    returns
+    put-rows-requires
+    put-core-line-requires-2
+    same-length-2
+    returns-2)

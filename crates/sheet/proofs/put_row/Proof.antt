@@ -1,0 +1,109 @@
+-- `sheet::put_row` meets its contract: a line for each bound. Assumes nothing.
+use Prim.Native.Nat.{ℕ, _+_, _-_, _≤_, _<_}
+use native.Mathlib.Nat.{sub-zero}
+use native.Mathlib.Omega.{arith}
+use borrow.Author.Needs.{needs}
+use mathlib.Core.List.{List}
+use lib.ListN.{length, getD}
+use Rattle.table.specs.declared.Row.{Row}
+use Rattle.files.specs.Promises.{PutAt}
+use Rattle.sheet.specs.Text.{each}
+use Rattle.sheet.specs.Sheet.{boundLine}
+use Rattle.sheet.specs.Promises.{Fits, rowText}
+use Rattle.sheet.proofs.Puts.{Putting, starts, room, turn, ends}
+use Rattle.sheet.proofs.Each.{each-more, each-none}
+use Rattle.sheet.proofs.put_row.Statement.{statement}
+use Rattle.sheet.proofs.put_row.Tie as tie
+
+-- the line of bound r
+bound-at : ℕ → Row → List ℕ → ℕ → List ℕ
+bound-at core row bounds r = boundLine core (row .id) (r + 1) (getD bounds r 0) (row .deadline)
+
+record Lines (core : ℕ) (row : Row) (bounds out₀ : List ℕ) (at : ℕ) (out : List ℕ) (p r : ℕ) : Type 0 where
+  few : length bounds ≤ 1024
+  upto : r ≤ length bounds
+  putting : Putting (rowText core row bounds) out₀ at out p (each (bound-at core row bounds) r (length bounds - r))
+
+-- at first all lines are left
+begins : (core : ℕ) (row : Row) (bounds out : List ℕ) (at : ℕ) → length bounds ≤ 1024 → Fits (rowText core row bounds) at out
+    → Lines core row bounds out at out at 0
+unfolding rowText bound-at
+begins core row bounds out at few h = record { few = few; upto = omega arith; putting = rw sub-zero (starts _ out at h) }
+
+module _ {core : ℕ} {row : Row} {bounds out₀ : List ℕ} {at : ℕ} {out : List ℕ} {p r : ℕ} (l : Lines core row bounds out₀ at out p r) where
+  module _ (h : r < length bounds) where
+    fits : Fits (bound-at core row bounds r) p out
+    fits = room (l .putting) (bound-at core row bounds r) _ (each-more (bound-at core row bounds) r (length bounds) h)
+
+    step : {q : ℕ} {out′ : List ℕ} → PutAt (bound-at core row bounds r) p out q out′ → Lines core row bounds out₀ at out′ q (r + 1)
+    step put =
+        record {
+          few = l .few;
+          upto = omega arith;
+          putting = turn (l .putting) (bound-at core row bounds r) _ (each-more (bound-at core row bounds) r (length bounds) h) put;
+        }
+
+  done : length bounds ≤ r → PutAt (rowText core row bounds) at out₀ p out
+  done h = ends (l .putting) (each-none (bound-at core row bounds) r (length bounds) h)
+
+abbrev Inv-loop : tie.InvT-loop
+Inv-loop out₀ at core row bounds p₀ r₀ out p r = Lines core row bounds out₀ at out p r
+
+abbrev μ-loop : tie.MeasureT-loop
+μ-loop out₀ at core row bounds p₀ r₀ out p r = length bounds - r
+
+loop-holds : tie.Need-loop-holds Inv-loop μ-loop
+loop-holds c = begins _ _ _ _ _ (c .before .before .pre .0) (c .before .before .pre .1)
+
+cast-put-bound : tie.Need-cast-put-bound Inv-loop μ-loop
+cast-put-bound c = omega (arith, c .before .before .loop .inv .few)
+
+mul-put-bound : tie.Need-mul-put-bound Inv-loop μ-loop
+mul-put-bound c = omega (arith, c .before .before .loop .inv .few)
+
+shared-slice-read-put-bound : tie.Need-shared-slice-read-put-bound Inv-loop μ-loop
+shared-slice-read-put-bound c = search needs
+
+put-bound-requires : tie.Need-put-bound-requires Inv-loop μ-loop
+unfolding bound-at
+put-bound-requires c κs =
+    let c2 = c .before .before in
+    let c3 = c2 .before in
+    (omega (arith, c3 .loop .inv .few), fits (c3 .loop .inv) (c2 .loop-test .taken))
+
+add-r : tie.Need-add-r Inv-loop μ-loop
+add-r c = search needs
+
+loop-less : tie.Need-loop-less Inv-loop μ-loop
+loop-less c = search needs
+
+loop-again : tie.Need-loop-again Inv-loop μ-loop
+unfolding bound-at
+loop-again c =
+    let c2 = c .before .before in
+    let c5 = c2 .before .before .before in
+    let c6 = c5 .before in
+    step (c6 .loop .inv) (c5 .loop-test .taken) (c2 .put-bound .ensures)
+
+same-length : tie.Need-same-length Inv-loop μ-loop
+same-length c = search needs
+
+returns : tie.Need-returns Inv-loop μ-loop
+returns c = done (c .before .loop .inv) (c .loop-test .left)
+
+pub put-row-spec : {M : Type 1} → statement M
+put-row-spec =
+    tie.close
+    (tie.spec
+    Inv-loop
+    μ-loop
+    loop-holds
+    cast-put-bound
+    mul-put-bound
+    shared-slice-read-put-bound
+    put-bound-requires
+    add-r
+    loop-less
+    loop-again
+    same-length
+    returns)

@@ -1,0 +1,186 @@
+-- `sheet::put_rows` meets its contract: row by row, each with its own bounds. Assumes nothing.
+use Prim.Native.Nat.{ℕ, _+_, _-_, _≤_, _<_}
+use native.Mathlib.Omega.{arith}
+use borrow.Author.Needs.{needs}
+use mathlib.Core.Path.{_≡_, refl, sym, ap, _∙_}
+use mathlib.Core.List.{List, [], _∷_, _++_}
+use lib.ListN.{length, getD, take, drop, drop-of-length-le}
+use lib.Seq.{drop-drop, length-take-le}
+use Rattle.lists.specs.Lists.{total}
+use Rattle.lists.proofs.Parts.{part-is, part-length}
+use Rattle.table.specs.declared.Row.{Row}
+use Rattle.table.specs.declared.Table.{Table}
+use Rattle.table.specs.Memory.{zeroRow, usedRows}
+use Rattle.table.proofs.Rows.{length-mapped, used-more}
+use Rattle.files.specs.Promises.{PutAt}
+use Rattle.sheet.specs.Promises.{Fits, Enough, rowText, partsOn, rowsText}
+use Rattle.sheet.proofs.Puts.{Putting, starts, room, turn, ends}
+use Rattle.sheet.proofs.put_rows.Statement.{statement}
+use Rattle.sheet.proofs.put_rows.Tie as tie
+
+record Rows (core : ℕ) (t : Table) (bounds out₀ : List ℕ) (at : ℕ) (out : List ℕ) (p used i : ℕ) : Type 0 where
+  few : t .count ≤ 64
+  rows-long : t .count ≤ length (t .rows)
+  most : length bounds ≤ 1024
+  left : used + total (partsOn core) (drop i (usedRows t)) ≤ length bounds
+  putting : Putting (rowsText core (usedRows t) bounds) out₀ at out p (rowsText core (drop i (usedRows t)) (drop used bounds))
+
+-- at first all rows are left
+begins : (core : ℕ) (t : Table) (bounds out : List ℕ) (at : ℕ) → length (t .rows) ≡ 64 → Enough core t (length bounds)
+    → Fits (rowsText core (usedRows t) bounds) at out → Rows core t bounds out at out at 0 0
+begins core t bounds out at long e h =
+    record {
+      few = e .rows;
+      rows-long = omega (arith, e .rows);
+      most = e .most;
+      left = omega (arith, e .parts);
+      putting = starts _ out at h;
+    }
+
+module _ {core : ℕ} {t : Table} {bounds out₀ : List ℕ} {at : ℕ} {out : List ℕ} {p used i : ℕ} (k : Rows core t bounds out₀ at out p used i) where
+  module _ (h : i < t .count) (n : ℕ) (e : n ≡ partsOn core (getD (t .rows) i zeroRow)) where
+    row : Row
+    row = getD (t .rows) i zeroRow
+
+    -- the row's own bounds
+    own : List ℕ
+    own = take (used + n - used) (drop used bounds)
+
+    next : drop i (usedRows t) ≡ row ∷ drop (i + 1) (usedRows t)
+    unfolding row
+    next = used-more (t .count) (t .rows) i h (k .rows-long)
+
+    left-next : used + n + total (partsOn core) (drop (i + 1) (usedRows t)) ≤ length bounds
+    unfolding total row
+    left-next = omega (arith, k .left, e, ap (total (partsOn core)) next)
+
+    own-few : length own ≤ 1024
+    unfolding own
+    own-few = omega (arith, part-length used n bounds (omega (arith, left-next)), left-next, k .most)
+
+    -- the lines of the row, then those of the others
+    cut : rowsText core (drop i (usedRows t)) (drop used bounds)
+        ≡ rowText core row own ++ rowsText core (drop (i + 1) (usedRows t)) (drop (used + n) bounds)
+    unfolding rowsText own row
+    cut = rw (next, ← e, drop-drop, part-is used n bounds)
+
+    fits : Fits (rowText core row own) p out
+    fits = room (k .putting) (rowText core row own) _ cut
+
+    step : {q : ℕ} {out′ : List ℕ} → PutAt (rowText core row own) p out q out′ → Rows core t bounds out₀ at out′ q (used + n) (i + 1)
+    step put =
+        record {
+          few = k .few;
+          rows-long = k .rows-long;
+          most = k .most;
+          left = left-next;
+          putting = turn (k .putting) (rowText core row own) _ cut put;
+        }
+
+  done : t .count ≤ i → PutAt (rowsText core (usedRows t) bounds) at out₀ p out
+  unfolding rowsText
+  done h =
+      let past : length (usedRows t) ≤ i = rw (length-take-le (t .count) (t .rows) (k .rows-long)) h in
+      ends (k .putting) (rw (drop-of-length-le (usedRows t) past))
+
+abbrev Inv-loop : tie.InvT-loop
+Inv-loop out₀ at core bounds t n p₀ used₀ i₀ out p used i = Rows core t bounds out₀ at out p used i
+
+abbrev μ-loop : tie.MeasureT-loop
+μ-loop out₀ at core bounds t n p₀ used₀ i₀ out p used i = t .count - i
+
+loop-holds : tie.Need-loop-holds Inv-loop μ-loop
+loop-holds c =
+    let rows : length (c .before .before .args .t4 .rows) ≡ 64 = search (needs, length-mapped) in
+    begins _ _ _ _ _ rows (c .before .before .pre .0) (c .before .before .pre .1)
+
+mul-row : tie.Need-mul-row Inv-loop μ-loop
+mul-row c = omega (arith, c .before .loop .inv .few)
+
+element-copy-out-row : tie.Need-element-copy-out-row Inv-loop μ-loop
+element-copy-out-row c = omega (arith, c .before .loop .inv .few)
+
+parts-on-requires : tie.Need-parts-on-requires Inv-loop μ-loop
+parts-on-requires c κs = search needs
+
+add-end : tie.Need-add-end Inv-loop μ-loop
+add-end c =
+    let c2 = c .before .before in
+    let c3 = c2 .before in
+    omega (arith, left-next (c3 .loop .inv) (c2 .loop-test .taken) _ (c .parts-on .ensures), c3 .loop .inv .most)
+
+mul-put-row : tie.Need-mul-put-row Inv-loop μ-loop
+mul-put-row c =
+    let c1 = c .before in
+    let c3 = c1 .before .before in
+    let c4 = c3 .before in
+    omega (arith, left-next (c4 .loop .inv) (c3 .loop-test .taken) _ (c1 .parts-on .ensures), c4 .loop .inv .most)
+
+sub-put-row : tie.Need-sub-put-row Inv-loop μ-loop
+sub-put-row c = omega arith
+
+part-put-row-start : tie.Need-part-put-row-start Inv-loop μ-loop
+part-put-row-start c =
+    let c1 = c .before in
+    let c3 = c1 .before .before in
+    let c4 = c3 .before in
+    omega (arith, left-next (c4 .loop .inv) (c3 .loop-test .taken) _ (c1 .parts-on .ensures), c4 .loop .inv .most)
+
+part-put-row-end : tie.Need-part-put-row-end Inv-loop μ-loop
+part-put-row-end c =
+    let c1 = c .before in
+    let c3 = c1 .before .before in
+    let c4 = c3 .before in
+    omega (arith, left-next (c4 .loop .inv) (c3 .loop-test .taken) _ (c1 .parts-on .ensures), c4 .loop .inv .most)
+
+put-row-requires : tie.Need-put-row-requires Inv-loop μ-loop
+unfolding own row
+put-row-requires c κs =
+    let c2 = c .before .before in
+    let c4 = c2 .before .before in
+    let c5 = c4 .before in
+    let k = c5 .loop .inv in
+    (own-few k (c4 .loop-test .taken) _ (c2 .parts-on .ensures), fits k (c4 .loop-test .taken) _ (c2 .parts-on .ensures))
+
+add-i : tie.Need-add-i Inv-loop μ-loop
+add-i c = search needs
+
+loop-less : tie.Need-loop-less Inv-loop μ-loop
+loop-less c = search needs
+
+loop-again : tie.Need-loop-again Inv-loop μ-loop
+unfolding own row
+loop-again c =
+    let c2 = c .before .before in
+    let c5 = c2 .before .before .before in
+    let c7 = c5 .before .before in
+    let c8 = c7 .before in
+    step (c8 .loop .inv) (c7 .loop-test .taken) _ (c5 .parts-on .ensures) (c2 .put-row .ensures)
+
+same-length : tie.Need-same-length Inv-loop μ-loop
+same-length c = search needs
+
+returns : tie.Need-returns Inv-loop μ-loop
+returns c = done (c .before .loop .inv) (c .loop-test .left)
+
+pub put-rows-spec : {M : Type 1} → statement M
+put-rows-spec =
+    tie.close
+    (tie.spec
+    Inv-loop
+    μ-loop
+    loop-holds
+    mul-row
+    element-copy-out-row
+    parts-on-requires
+    add-end
+    mul-put-row
+    sub-put-row
+    part-put-row-start
+    part-put-row-end
+    put-row-requires
+    add-i
+    loop-less
+    loop-again
+    same-length
+    returns)

@@ -1,0 +1,99 @@
+-- `sheet::sheet` meets its contract: the text is worked out in room that is always enough, and copied where it fits. Assumes nothing.
+use Prim.Native.Nat.{ℕ, _+_, _≤_, _<_, _^_}
+use native.Mathlib.Nat.{zero-add}
+use native.Mathlib.Omega.{arith}
+use borrow.Author.Needs.{needs}
+use borrow.Author.Tests.{lt-ltb, le-ltb}
+use mathlib.Core.Path.{_≡_, refl, sym, ap, _∙_}
+use mathlib.Core.List.{List, _++_}
+use lib.ListN.{length, take, drop}
+use lib.Seq.{sets, sets-eq, length-sets, length-take-le}
+use Rattle.lists.proofs.Stores.{take-sets}
+use Rattle.numbers.specs.Numbers.{Bytes}
+use Rattle.table.specs.declared.Verdict.the-variants.{Good, NoRoom}
+use Rattle.files.specs.Promises.{PutAt}
+use Rattle.sheet.specs.Sheet.{sheetText, printAnswer, printed, Prints}
+use Rattle.sheet.specs.Promises.{Fits}
+use Rattle.sheet.proofs.Files.{text-is-short}
+use Rattle.sheet.proofs.sheet.Statement.{statement}
+use Rattle.sheet.proofs.sheet.Tie as tie
+
+-- the text stands in front of the room that it was worked out in
+record Worked (s : List ℕ) (n : ℕ) (room : List ℕ) : Type 0 where
+  within : n ≤ length room
+  size : length (sheetText s) ≡ n
+  front : take n room ≡ sheetText s
+
+worked : {s : List ℕ} → Bytes s → length s < 2 ^ 64 → {n : ℕ} {room₀ room : List ℕ} → 29842 ≤ length room₀ → PutAt (sheetText s) 0 room₀ n room
+    → Worked s n room
+worked {s} bs few {n} {room₀} {room} long put =
+    let fits : 0 + length (sheetText s) ≤ length room₀ = omega (arith, text-is-short s bs few) in
+    let same : length room ≡ length room₀ = ap length (put .stored) ∙ length-sets room₀ 0 (sheetText s) in
+    record {
+      within = omega (arith, put .place);
+      size = omega (arith, put .place);
+      front = rw (put .stored, put .place) (take-sets room₀ 0 (sheetText s) fits);
+    }
+
+module _ {s : List ℕ} {n : ℕ} {room : List ℕ} (w : Worked s n room) {out : List ℕ} where
+  short : length out < n → Prints s out (record { verdict = NoRoom n; count = 0 }) out
+  unfolding printAnswer printed
+  short h = record { answer = rw (w .size, lt-ltb (length out) n h); bytes = rw (w .size, lt-ltb (length out) n h) }
+
+  fits : n ≤ length out → Fits (take n room) 0 out
+  fits h = record { room = rw (w .front) (omega (arith, w .size)) }
+
+  done : n ≤ length out → {q : ℕ} {out′ : List ℕ} → PutAt (take n room) 0 out q out′ → Prints s out (record { verdict = Good; count = n }) out′
+  unfolding printAnswer printed
+  done h {q} {out′} put =
+      let text : out′ ≡ sets out 0 (sheetText s) = put .stored ∙ ap (sets out 0) (w .front) in
+      let fit : 0 + length (sheetText s) ≤ length out = omega (arith, w .size) in
+      record {
+        answer = rw (w .size, le-ltb (length out) n h);
+        bytes = text ∙ sets-eq (sheetText s) out 0 fit ∙ rw (zero-add, w .size, le-ltb (length out) n h);
+      }
+
+worked-here : (c : tie.After-put-sheet) → Worked (c .before .before .before .before .args .bytes .now) (c .put-sheet .result) (c .put-sheet .last .0)
+worked-here c =
+    worked (λ i. omega (arith, c .before .before .before .shared-slice-known .given i)) (search needs) (search needs) (c .put-sheet .ensures)
+
+slice-aggregate-put-sheet : tie.Need-slice-aggregate-put-sheet
+slice-aggregate-put-sheet c = search needs
+
+put-sheet-requires : tie.Need-put-sheet-requires
+put-sheet-requires c κs = search needs
+
+returns : tie.Need-returns
+returns c = short (worked-here (c .before .before)) (c .if1 .taken)
+
+array-share-prefix-text : tie.Need-array-share-prefix-text
+array-share-prefix-text c = worked-here (c .before .before .before) .within
+
+slice-aggregate-put-bytes : tie.Need-slice-aggregate-put-bytes
+slice-aggregate-put-bytes c = sym (length-take-le _ _ (worked-here (c .before .before .before .before) .within))
+
+put-bytes-requires : tie.Need-put-bytes-requires
+put-bytes-requires c κs = fits (worked-here (c .before .before .before .before)) (c .before .before .if1 .left)
+
+same-length : tie.Need-same-length
+same-length c = search needs
+
+returns-2 : tie.Need-returns-2
+returns-2 c =
+    let c2 = c .before .before in
+    let c5 = c2 .before .before .before in
+    let c7 = c5 .before .before in
+    done (worked-here (c7)) (c5 .if1 .left) (c2 .put-bytes .ensures)
+
+pub sheet-spec : {M : Type 1} → statement M
+sheet-spec =
+    tie.close
+    (tie.spec
+    slice-aggregate-put-sheet
+    put-sheet-requires
+    returns
+    array-share-prefix-text
+    slice-aggregate-put-bytes
+    put-bytes-requires
+    same-length
+    returns-2)

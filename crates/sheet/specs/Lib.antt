@@ -1,0 +1,4 @@
+pub mod Text
+pub mod Sheet
+pub mod Promises
+pub mod Claims
