@@ -57,12 +57,12 @@ fn file_of(rows: &[Row]) -> Vec<u8> {
     file
 }
 
-/// 60 rows on `cores` cores, each core loaded to about `load` thousandths, periods of every size up to `longest`, `parts` parts a row.
+/// 60 rows on `cores` cores, each core loaded to about `load` thousandths, periods up to `longest`, `parts` parts a row.
 fn sixty(random: &mut Random, cores: u64, load: u64, longest: u64, parts: u64) -> Vec<u8> {
     let on_core = 60 / cores;
     let rows: Vec<Row> = (0..60)
         .map(|i| {
-            let period = random.between(longest / 2, longest) >> random.between(0, 11);
+            let period = random.between(longest / 2, longest) >> random.between(0, 3);
             let cost = (period * load / 1000 / on_core).max(parts);
             let times = (0..parts).map(|_| cost / parts).collect();
             // the first third of a core's rows is preemptive, and higher
@@ -113,24 +113,24 @@ fn main() -> ExitCode {
     let tables = [
         ("empty file", Vec::new()),
         (
-            "light: 60 rows, 4 cores",
+            "light: 60 rows on 4 cores, load 0.40",
             sixty(&mut random, 4, 400, 100_000, 2),
         ),
         (
-            "light: 60 rows, 1 core",
+            "light: 60 rows on 1 core, load 0.60",
             sixty(&mut random, 1, 600, 100_000, 2),
         ),
         (
-            "heavy: 60 rows, 1 core, load 0.92",
-            sixty(&mut random, 1, 920, 4_000_000, 4),
+            "60 rows on 1 core, load 0.95",
+            sixty(&mut random, 1, 950, 1_000_000, 16),
         ),
         (
-            "heavy: 60 rows, 1 core, load 0.95",
-            sixty(&mut random, 1, 950, 8_000_000, 4),
+            "heavy: 60 rows on 1 core, load 0.999, periods to 50,000",
+            sixty(&mut random, 1, 999, 50_000, 16),
         ),
         (
-            "heavy: 60 rows, 1 core, load 0.95, 16 parts",
-            sixty(&mut random, 1, 950, 8_000_000, 16),
+            "heavy: 60 rows on 1 core, load 0.999, periods to 100,000",
+            sixty(&mut random, 1, 999, 100_000, 16),
         ),
         (
             "many jobs: T 2 C 1 above one part of 8,388,607",
