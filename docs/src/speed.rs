@@ -64,7 +64,8 @@ fn sixty(random: &mut Random, cores: u64, load: u64, longest: u64, parts: u64) -
         .map(|i| {
             let period = random.between(longest / 2, longest) >> random.between(0, 3);
             let cost = (period * load / 1000 / on_core).max(parts);
-            let times = (0..parts).map(|_| cost / parts).collect();
+            let mut times = vec![cost / parts; parts as usize];
+            times[0] += cost % parts;
             // the first third of a core's rows is preemptive, and higher
             let place = i / cores;
             let kind = u64::from(place * 3 >= on_core);
