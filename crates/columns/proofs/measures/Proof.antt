@@ -38,6 +38,7 @@ times-add u g =
     let all : sum (u .times) ≤ length (u .times) * 16777215 = sum-most (u .times) 16777215 (λ r h. g .time r h .most) in
     omega (arith, g .count .most)
 
+-- the numbers of the rows that are left are still to be stored
 record Filling (t : Table) (what : Measure) (old out : List ℕ) (used i : ℕ) : Type 0 where
   left : List Task
   ahead : Ahead t used i left
@@ -55,7 +56,7 @@ module _ {t : Table} {what : Measure} {old out : List ℕ} {used i : ℕ} (f : F
     inside : i < length out
     inside = omega (arith, f .ahead .few, f .long, f .room)
 
-    -- the row that is lent can be measured
+    -- the row with the times that are lent can be measured
     measurable : Measurable (getD (t .rows) i zeroRow) (lent t used i)
     measurable = record {
       parts = rw (coming .own, coming .row);
@@ -66,6 +67,7 @@ module _ {t : Table} {what : Measure} {old out : List ℕ} {used i : ℕ} (f : F
     task-is : taskOf (getD (t .rows) i zeroRow) (lent t used i) ≡ coming .task
     task-is = rw (coming .own, coming .row)
 
+    -- its number is stored, and the others are left
     turn : (n : ℕ) → n ≡ measureOf what (taskOf (getD (t .rows) i zeroRow) (lent t used i))
         → Filling t what old (set out i n) (used + getD (t .rows) i zeroRow .parts) (i + 1)
     turn n e =

@@ -57,12 +57,12 @@ module _ {t : Table} {core : ℕ} {rows : List Row} {times : List ℕ} {count ke
     fits : length (lent t used i) ≤ length (take (1024 - kept) (drop kept times))
     fits = rw (behind-length (k .laid) (omega (arith, room))) (omega (arith, lent-length, room))
 
-    -- a row of the core is kept
-    keeps : (part : List ℕ) → getD (t .rows) i zeroRow .core ≡ core
+    -- a row of the core is kept, and the next row's times begin past its own
+    keeps : (past : ℕ) → past ≡ used + getD (t .rows) i zeroRow .parts → (part : List ℕ) → getD (t .rows) i zeroRow .core ≡ core
         → part ≡ sets (take (1024 - kept) (drop kept times)) 0 (lent t used i)
         → Keeping t core (set rows count (getD (t .rows) i zeroRow)) (take kept times ++ (part ++ drop (1024 - kept) (drop kept times)))
-        (count + 1) (kept + getD (t .rows) i zeroRow .parts) (used + getD (t .rows) i zeroRow .parts) (i + 1)
-    keeps part on e =
+        (count + 1) (kept + getD (t .rows) i zeroRow .parts) past (i + 1)
+    keeps past begins part on e =
         let u : Task = coming .task in
         let on-core : u .core ≡ core = ap (λ (r : Row). r .core) (sym (coming .row)) ∙ on in
         let first : onCore core (k .left) ≡ u ∷ onCore core (coming .others)
@@ -71,25 +71,26 @@ module _ {t : Table} {core : ℕ} {rows : List Row} {times : List ℕ} {count ke
           mine = k .mine ++ (u ∷ []);
           left = coming .others;
           laid = laid-more (k .laid) u _ _ (coming .row) (coming .own) part place (omega (arith, room, lent-length)) e;
-          ahead = coming .ahead;
+          ahead = rw begins (coming .ahead);
           all = k .all ∙ ap (_++_ (k .mine)) first ∙ sym (append-snoc (k .mine) u (onCore core (coming .others)));
           fewer = omega (arith, k .fewer);
-          less = omega (arith, k .less);
+          less = omega (arith, k .less, begins);
         }
 
     -- any other is passed over
-    passes : (getD (t .rows) i zeroRow .core ≡ core → ⊥) → Keeping t core rows times count kept (used + getD (t .rows) i zeroRow .parts) (i + 1)
-    passes off =
+    passes : (past : ℕ) → past ≡ used + getD (t .rows) i zeroRow .parts → (getD (t .rows) i zeroRow .core ≡ core → ⊥)
+        → Keeping t core rows times count kept past (i + 1)
+    passes past begins off =
         let u : Task = coming .task in
         let off-core : u .core ≡ core → ⊥ = λ e. off (ap (λ (r : Row). r .core) (coming .row) ∙ e) in
         record {
           mine = k .mine;
           left = coming .others;
           laid = k .laid;
-          ahead = coming .ahead;
+          ahead = rw begins (coming .ahead);
           all = k .all ∙ ap (_++_ (k .mine)) (ap (onCore core) (coming .first) ∙ core-other core u (coming .others) off-core);
           fewer = omega (arith, k .fewer);
-          less = omega (arith, k .less);
+          less = omega (arith, k .less, begins);
         }
 
   -- past the last row the core's rows are all there
@@ -219,8 +220,8 @@ loop-again c =
     let c4 = c .before .before .before .before in
     let k = c4 .before .loop .inv in
     ⊎-elim
-    (λ w. rw (w .6, w .7, w .8, w .9) (keeps k (c4 .loop-test .taken) _ (w .0 .taken) (w .4 .ensures)))
-    (λ w. rw (w .1, w .2, w .3, w .4) (passes k (c4 .loop-test .taken) (w .0 .left)))
+    (λ w. rw (w .6, w .7, w .8, w .9) (keeps k (c4 .loop-test .taken) _ (omega arith) _ (w .0 .taken) (w .4 .ensures)))
+    (λ w. rw (w .1, w .2, w .3, w .4) (passes k (c4 .loop-test .taken) _ (omega arith) (w .0 .left)))
     (c .if1 .came)
 
 returns : tie.Need-returns Inv-loop μ-loop
