@@ -1,9 +1,9 @@
 -- A core's rows in columns: what the passes over them ask for. Assumes nothing.
 use Prim.Native.Nat.{ℕ, _≤_}
 use native.Mathlib.Omega.{arith}
-use mathlib.Core.Path.{_≡_, refl, sym, ap, _∙_}
+use mathlib.Core.Path.{_≡_, sym, ap, _∙_}
 use mathlib.Core.List.{List, _++_, map}
-use lib.ListN.{length, drop}
+use lib.ListN.{length}
 use Rattle.lists.specs.Lists.{total, sum}
 use Rattle.lists.proofs.Maps.{map-length}
 use Rattle.lists.proofs.MapFronts.{sum-map}

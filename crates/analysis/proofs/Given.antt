@@ -1,8 +1,8 @@
 -- An answer with nothing written, and one with all bounds written. Assumes nothing.
-use Prim.Native.Nat.{ℕ, _≤_, _<_}
+use Prim.Native.Nat.{ℕ, _≤_}
 use native.Mathlib.Omega.{arith}
 use borrow.Author.Tests.{ne-eqb}
-use mathlib.Core.Path.{_≡_, refl, sym, ap, subst, _∙_}
+use mathlib.Core.Path.{_≡_, refl, ap, subst, _∙_}
 use mathlib.Core.Bool.{true, false}
 use mathlib.Core.List.{List, [], _∷_, _++_}
 use lib.ListN.{drop}
@@ -12,7 +12,7 @@ use Rattle.table.specs.declared.Verdict.{Verdict}
 use Rattle.table.specs.Verdicts.{codeOf}
 use Rattle.passes.specs.Held.{chained}
 use Rattle.analysis.specs.declared.Analysed.{Analysed}
-use Rattle.analysis.specs.Analysis.{needed, boundsOf, coreBounds, writes, answered, roomAfter, Gives}
+use Rattle.analysis.specs.Analysis.{needed, boundsOf, writes, answered, roomAfter, Gives}
 
 -- the codes of reading write nothing
 pub reading-writes-none : (v : Verdict) → (codeOf v ≡ 0 → ⊥) → codeOf v ≤ 8 → writes v ≡ false

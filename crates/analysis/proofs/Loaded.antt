@@ -4,12 +4,12 @@ use native.Mathlib.Omega.{arith}
 use mathlib.Core.Path.{_≡_, refl, sym, ap, _∙_}
 use mathlib.Core.List.{List, [], _∷_, _++_, map}
 use lib.ListN.{length, take, replicate}
-use Rattle.lists.specs.Lists.{total, largest}
+use Rattle.lists.specs.Lists.{largest}
 use Rattle.lists.proofs.MapFronts.{front-fits, front-is}
 use Rattle.lists.proofs.PadStores.{pad-length}
 use Rattle.model.specs.Task.{Task, cost, parts}
 use Rattle.table.specs.declared.Table.{Table}
-use Rattle.table.specs.Memory.{allTimes, stored}
+use Rattle.table.specs.Memory.{allTimes}
 use Rattle.columns.specs.Columns.{Lies, Column, fieldOf}
 use Rattle.passes.specs.Held.{chained}
 use Rattle.passes.proofs.Chains.{chained-length}

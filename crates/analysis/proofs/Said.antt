@@ -1,5 +1,5 @@
 -- What is said of a core's rows, from the highest row whose window is 0 and the highest that misses its deadline. Assumes nothing.
-use Prim.Native.Nat.{ℕ, _≤_}
+use Prim.Native.Nat.{ℕ}
 use native.Mathlib.Omega.{arith}
 use borrow.Author.Tests.{ne-eqb}
 use mathlib.Core.Path.{_≡_, refl, sym, ap, subst, _∙_}
@@ -14,13 +14,12 @@ use Rattle.model.specs.declared.Found.the-variants.{At, Nothing}
 use Rattle.model.specs.Task.{Task}
 use Rattle.model.specs.Rows.{GoodTask}
 use Rattle.model.specs.Least.{found, value, Says}
-use Rattle.model.specs.Bounds.{limit, demand, window, meetsDeadline, highest, judgedBy, coreVerdict, CoreVerdict, passes, noWindow, misses}
+use Rattle.model.specs.Bounds.{limit, demand, window, meetsDeadline, highest, judgedBy, coreVerdict}
 use Rattle.model.specs.Verdict.{AllWindows, Judged}
 use Rattle.model.specs.MachineSample.{idOf}
 use Rattle.model.proofs.Least.{least-says}
 use Rattle.model.proofs.Verdict.{verdict-says}
-use Rattle.model.proofs.Highest.{highest-same, highest-in, none-highest, id-none, id-some}
-use Rattle.table.specs.declared.Verdict.{Verdict}
+use Rattle.model.proofs.Highest.{highest-same, none-highest, id-none, id-some}
 use Rattle.table.specs.declared.Verdict.the-variants.{Good, NoWindow, Missed}
 use Rattle.passes.specs.Held.{windowLength, meets, isZero}
 use Rattle.analysis.specs.Analysis.{named}

@@ -1,8 +1,7 @@
 -- What is said of a table and of a file, by the cases that the code goes through. Assumes nothing.
 use Prim.Native.Nat.{ℕ, _≤_, _<_}
-use native.Mathlib.Omega.{arith}
 use borrow.Author.Tests.{lt-ltb, le-ltb}
-use mathlib.Core.Path.{_≡_, refl, sym, ap, ap₂, subst, _∙_}
+use mathlib.Core.Path.{_≡_, refl, sym, ap, subst, _∙_}
 use mathlib.Core.Bool.{false}
 use mathlib.Core.List.{List}
 use lib.ListN.{length}
@@ -11,8 +10,8 @@ use Rattle.model.specs.Task.{Task}
 use Rattle.model.specs.Bounds.{onCore}
 use Rattle.table.specs.declared.Table.{Table}
 use Rattle.table.specs.declared.Verdict.{Verdict}
-use Rattle.table.specs.declared.Verdict.the-variants.{Good, NoSuchCore}
-use Rattle.table.specs.Verdicts.{codeOf, good, _orElse_}
+use Rattle.table.specs.declared.Verdict.the-variants.{NoSuchCore}
+use Rattle.table.specs.Verdicts.{codeOf, good}
 use Rattle.table.specs.Memory.{tasksOf, stored}
 use Rattle.table.specs.Faults.{faultOf}
 use Rattle.table.proofs.Codes.{is-good, or-good, fault-stays}

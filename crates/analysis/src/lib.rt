@@ -1,12 +1,8 @@
 // One core's answer: what is said of it, and its bounds in lent room.
-ghost use mathlib.Core.Path.{_≡_};
 ghost use mathlib.Core.List.{List};
-ghost use Prim.Native.Nat.{_≤_};
 ghost use lib.ListN.{length};
 ghost use Rattle.model.specs.Task.{Task};
 ghost use Rattle.model.specs.Bounds.{coreVerdict};
-ghost use Rattle.model.specs.Verdict.{AllWindows};
-ghost use Rattle.passes.specs.Held.{windowLength};
 ghost use Rattle.analysis.specs.Analysis.{needed, named, Gives, Analyses, AnalysesTable};
 ghost use Rattle.analysis.specs.Promises.{roomSaid, CoreTable, HeldCore, HeldWindows};
 use table::Table;

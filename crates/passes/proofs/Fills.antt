@@ -1,9 +1,9 @@
 -- A column is filled row by row: i of its numbers stand, and what is past them stays. Assumes nothing.
-use Prim.Native.Nat.{ℕ, suc, _+_, _≤_, _<_}
+use Prim.Native.Nat.{ℕ, suc, _+_, _<_}
 use native.Mathlib.Numerals.{add-one}
 use native.Mathlib.Omega.{arith}
-use mathlib.Core.Path.{_≡_, refl, sym, ap, _∙_}
-use mathlib.Core.List.{List, [], _∷_, _++_, map, map-append, append-assoc}
+use mathlib.Core.Path.{_≡_, sym, ap, _∙_}
+use mathlib.Core.List.{List, _∷_, _++_, map, map-append, append-assoc}
 use lib.ListN.{length, getD, take, drop, set}
 use lib.Seq.{set-append-seam, drop-cons, take-all, length-take-le}
 use Rattle.lists.specs.Lists.{Place}

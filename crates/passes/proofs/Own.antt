@@ -1,14 +1,13 @@
 -- One row of the columns: what its window and its bounds are worked out from. Assumes nothing.
 use Prim.Native.Nat.{ℕ, _≤_, _<_}
 use native.Mathlib.Omega.{arith}
-use mathlib.Core.Path.{_≡_, refl, sym, ap, subst, _∙_}
-use mathlib.Core.Bool.{Bool}
-use mathlib.Core.List.{List, _∷_, _++_, map}
-use lib.ListN.{length, getD, take, length-append}
-use lib.Seq.{take-at, length-take-le}
+use mathlib.Core.Path.{_≡_, ap, _∙_}
+use mathlib.Core.List.{List, _∷_}
+use lib.ListN.{length, getD, take}
 use lib.Dec.{eqb}
 use Rattle.lists.specs.Lists.{Place}
 use Rattle.lists.proofs.Maps.{map-length}
+use Rattle.lists.proofs.MapFronts.{front-fits, front-is}
 use Rattle.lists.proofs.Places.{place-in, place-map, place-below}
 use Rattle.model.specs.Task.{Task, cost}
 use Rattle.model.specs.declared.Found.{Found}
@@ -18,39 +17,25 @@ use Rattle.model.specs.Bounds.{limit, cooperative, higher, blocking, demand, wi
 use Rattle.model.proofs.Least.{least-says}
 use Rattle.gather.specs.Picked.{longestPart, Held}
 use Rattle.bounds.specs.Gathered.{periodsOf, costsOf, Demanded, Gathered}
-use Rattle.passes.specs.Held.{HeldRows, HeldPreemptive, RowHeld, OwnFirst, windowLength}
+use Rattle.passes.specs.Held.{HeldRows, RowHeld, OwnFirst}
 
 -- what stands in front
 module _ (rows : List Task) (t : Task) (n : ℕ) (ps cs : List ℕ) (o : OwnFirst rows t n ps cs) where
   -- the periods
   own-periods : take n ps ≡ periodsOf (t ∷ higher rows t)
-  own-periods = rw (o .periods) (take-at _ (o .restP) n (map-length (λ (u : Task). u .period) (t ∷ higher rows t) ∙ sym (o .count)))
+  own-periods = front-is (λ u. u .period) (t ∷ higher rows t) ps (o .restP) (o .periods) n (o .count)
 
   -- the costs
   own-costs : take n cs ≡ costsOf (t ∷ higher rows t)
-  own-costs = rw (o .costs) (take-at _ (o .restC) n (map-length cost (t ∷ higher rows t) ∙ sym (o .count)))
+  own-costs = front-is cost (t ∷ higher rows t) cs (o .restC) (o .costs) n (o .count)
 
   -- there are so many periods
   pub periods-fit : n ≤ length ps
-  periods-fit =
-      omega (
-        arith,
-        o .count,
-        ap length (o .periods),
-        length-append (periodsOf (t ∷ higher rows t)) (o .restP),
-        map-length (λ (u : Task). u .period) (t ∷ higher rows t),
-      )
+  periods-fit = omega (arith, o .count, front-fits (λ u. u .period) (t ∷ higher rows t) ps (o .restP) (o .periods))
 
   -- and so many costs
   pub costs-fit : n ≤ length cs
-  costs-fit =
-      omega (
-        arith,
-        o .count,
-        ap length (o .costs),
-        length-append (costsOf (t ∷ higher rows t)) (o .restC),
-        map-length cost (t ∷ higher rows t),
-      )
+  costs-fit = omega (arith, o .count, front-fits cost (t ∷ higher rows t) cs (o .restC) (o .costs))
 
 module _ (rows : List Task) (t : Task) (own : ℕ) (ks ps ts cs ls : List ℕ) (p : Place rows own t) (h : HeldRows rows ks ps ts cs ls) where
   -- it is one of the rows

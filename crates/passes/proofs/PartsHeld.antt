@@ -2,7 +2,7 @@
 use Prim.Native.Nat.{ℕ, _+_, _-_, _≤_, _<_}
 use native.Mathlib.Omega.{arith}
 use mathlib.Core.Path.{_≡_, refl, sym, ap, _∙_}
-use mathlib.Core.List.{List, _++_, map}
+use mathlib.Core.List.{List, map}
 use lib.ListN.{length, getD, take, drop, length-append}
 use Rattle.lists.specs.Lists.{Place, total}
 use Rattle.lists.proofs.Maps.{map-length}
@@ -13,7 +13,7 @@ use Rattle.model.specs.Task.{Task, parts}
 use Rattle.model.specs.Least.{value}
 use Rattle.model.specs.Bounds.{window, rowBounds}
 use Rattle.passes.specs.Held.{chained, windowLength, HeldRows, HeldPreemptive, HeldParts, RowHeld}
-use Rattle.passes.proofs.Chains.{chained-length, total-through, total-around, part-at}
+use Rattle.passes.proofs.Chains.{chained-length, total-around, part-at}
 
 -- a time for each part
 pub times-long : (u : Task) → length (u .times) ≡ parts u

@@ -6,7 +6,7 @@ use mathlib.Core.List.{List, [], _∷_, _++_, map}
 use lib.ListN.{length, drop}
 use lib.Dec.{eqb, leb}
 use Rattle.lists.specs.Lists.{pick, keep, Place}
-use Rattle.model.specs.Task.{Task, cost, parts}
+use Rattle.model.specs.Task.{Task, parts}
 use Rattle.model.specs.Rows.{GoodCore}
 use Rattle.model.specs.declared.Found.the-variants.{At}
 use Rattle.model.specs.Least.{value}

@@ -174,7 +174,7 @@ fn rows_bounds(
 {
     let mut a: usize = 0;
     let mut i: usize = 0;
-    while i < counts.len() {
+    while i < windows.len() {
         let e = a + counts[i] as usize;
         let window = windows[i];
         let own = &times[a..e];

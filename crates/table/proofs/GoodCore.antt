@@ -3,8 +3,8 @@ use Prim.Native.Nat.{ℕ, _≤_, _<_}
 use native.Mathlib.Nat.{le-antisymm}
 use native.Mathlib.Omega.{arith}
 use borrow.Author.Tests.{eq-eqb, eqb-true, ltb-false}
-use mathlib.Core.Path.{_≡_, refl, sym, ap, _∙_}
-use mathlib.Core.Bool.{Bool, true, false, or-true}
+use mathlib.Core.Path.{_≡_, sym, ap, _∙_}
+use mathlib.Core.Bool.{true, false, or-true}
 use mathlib.Core.Logic.{⊎-elim}
 use mathlib.Core.List.{List, [], _∷_, map, Memᴰ·map}
 use lib.ListN.{length}
@@ -20,7 +20,7 @@ use Rattle.model.proofs.Cores.{core-good}
 use Rattle.table.specs.declared.Row.{Row}
 use Rattle.table.specs.declared.Rule.the-variants as R
 use Rattle.table.specs.declared.Table.{Table}
-use Rattle.table.specs.Verdicts.{codeOf, _orElse_}
+use Rattle.table.specs.Verdicts.{codeOf}
 use Rattle.table.specs.Memory.{rowOf, tasksOf}
 use Rattle.table.specs.Clash.{coopAbove, breaks, broken, clashOf}
 use Rattle.table.specs.Faults.{faultOf}

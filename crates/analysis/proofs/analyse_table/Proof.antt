@@ -1,5 +1,5 @@
 -- `analysis::analyse_table` meets its contract: each return is one case of what is said of a table.
-use mathlib.Core.Path.{_≡_, refl, sym, ap, _∙_}
+use mathlib.Core.Path.{_≡_, sym, ap, _∙_}
 use borrow.Author.Needs.{needs}
 use lib.ListN.{length}
 use Rattle.table.specs.Verdicts.{codeOf}

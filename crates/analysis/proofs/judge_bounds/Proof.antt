@@ -1,11 +1,11 @@
 -- `analysis::judge_bounds` meets its contract: all bounds are written, and the highest row that misses its deadline is named.
 use Prim.Native.Nat.{ℕ, _≤_}
-use mathlib.Core.Path.{_≡_, refl, sym, ap, _∙_}
+use mathlib.Core.Path.{_≡_, refl, sym}
 use mathlib.Core.Bool.{true}
 use mathlib.Core.List.{List, _++_, map}
 use native.Mathlib.Omega.{arith}
 use borrow.Author.Needs.{needs}
-use lib.ListN.{length, take, drop}
+use lib.ListN.{length, drop}
 use lib.Seq.{length-take-le}
 use Rattle.lists.specs.Lists.{total}
 use Rattle.lists.proofs.MapFronts.{front-fits, front-is}
@@ -54,15 +54,26 @@ Core s rows =
 abbrev Windows : tie.Start → List Task → Type 0
 Windows s rows = HeldWindows rows (s .args .windows .now) (s .args .count) (length (s .args .room .now))
 
+-- the call that writes the bounds, and the function's entry
+abbrev core-call : tie.After-deadlines-met → tie.After-core-bounds
+core-call c = c .before .before .before .before .before
+
+abbrev entry : tie.After-deadlines-met → tie.Start
+entry c = core-call c .before .before .before .before .before .before .before .before .before .before .before .before .before
+
+-- the call that looks at the deadlines
+abbrev met-call : tie.After-highest-zero → tie.After-deadlines-met
+met-call c = c .before .before .before
+
 -- for each row whether it meets its deadline
-met-of : (c : tie.After-deadlines-met) (rows : List Task) → Core (c .before .before .before .before .before .before .before .before .before .before .before .before .before .before .before .before .before .before) rows → Windows (c .before .before .before .before .before .before .before .before .before .before .before .before .before .before .before .before .before .before) rows
+met-of : (c : tie.After-deadlines-met) (rows : List Task) → Core (entry c) rows → Windows (entry c) rows
     → Met rows (c .deadlines-met .last .1 .1 .1 .0)
 met-of c rows h w =
     let asked = bounds-held h _ _ (c .before .before .before .before .before .core-bounds .ensures rows (h .held) (parts-held h w)) in
     (_, c .deadlines-met .ensures rows asked .whole)
 
 -- the id of the highest row that misses its deadline
-late-is : (c : tie.After-highest-zero) (rows : List Task) → Core (c .before .before .before .before .before .before .before .before .before .before .before .before .before .before .before .before .before .before .before .before .before) rows → Windows (c .before .before .before .before .before .before .before .before .before .before .before .before .before .before .before .before .before .before .before .before .before) rows
+late-is : (c : tie.After-highest-zero) (rows : List Task) → Core (entry (met-call c)) rows → Windows (entry (met-call c)) rows
     → c .highest-zero .result ≡ idOf (highest (isZero (meets rows)) rows)
 late-is c rows h w =
     c .highest-zero .ensures rows (meets rows)
@@ -87,21 +98,24 @@ deadlines-met-requires c κs =
 array-share-prefix-met : tie.Need-array-share-prefix-met
 array-share-prefix-met c =
     let c1 = c .before in
-    let c19 = c1 .before .before .before .before .before .before .before .before .before .before .before .before .before .before .before .before .before .before in
+    let far = c1 .before .before .before .before .before .before .before .before .before .before .before .before in
+    let c19 = far .before .before .before .before .before .before in
     let p = c19 .pre in
     met-fits (p .0) _ _ (met-of (c1) _ (p .1) (p .2)) (ids-length (p .1))
 
 slice-aggregate-highest-zero : tie.Need-slice-aggregate-highest-zero
 slice-aggregate-highest-zero c =
     let c2 = c .before .before in
-    let c20 = c2 .before .before .before .before .before .before .before .before .before .before .before .before .before .before .before .before .before .before in
+    let far = c2 .before .before .before .before .before .before .before .before .before .before .before .before in
+    let c20 = far .before .before .before .before .before .before in
     let p = c20 .pre in
     sym (length-take-le _ _ (met-fits (p .0) _ _ (met-of (c2) _ (p .1) (p .2)) (ids-length (p .1))))
 
 highest-zero-requires : tie.Need-highest-zero-requires
 highest-zero-requires c κs =
     let c2 = c .before .before in
-    let c20 = c2 .before .before .before .before .before .before .before .before .before .before .before .before .before .before .before .before .before .before in
+    let far = c2 .before .before .before .before .before .before .before .before .before .before .before .before in
+    let c20 = far .before .before .before .before .before .before in
     let p = c20 .pre in
     (priorities-length (p .1), length-take-le _ _ (met-fits (p .0) _ _ (met-of (c2) _ (p .1) (p .2)) (ids-length (p .1))))
 

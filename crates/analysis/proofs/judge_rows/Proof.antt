@@ -1,6 +1,6 @@
 -- `analysis::judge_rows` meets its contract: 10, then 11 with nothing written, then what the bounds say.
 use Prim.Native.Nat.{ℕ, _≤_, _<_}
-use mathlib.Core.Path.{_≡_, refl, sym, ap, subst, _∙_}
+use mathlib.Core.Path.{_≡_, refl, sym, _∙_}
 use mathlib.Core.Bool.{false}
 use mathlib.Core.List.{List, _++_, map}
 use native.Mathlib.Omega.{arith}
@@ -14,7 +14,7 @@ use Rattle.model.specs.Bounds.{highest, coreVerdict}
 use Rattle.model.specs.MachineSample.{idOf}
 use Rattle.table.specs.declared.Verdict.the-variants.{NoRoom, NoWindow}
 use Rattle.passes.specs.Held.{windowLength, isZero}
-use Rattle.analysis.specs.Analysis.{needed, named, writes, Gives}
+use Rattle.analysis.specs.Analysis.{needed, named, writes}
 use Rattle.analysis.specs.Promises.{roomSaid, HeldCore, HeldWindows}
 use Rattle.analysis.proofs.Said.{no-window, all-windows}
 use Rattle.analysis.proofs.Given.{gives-none, gives-same}
@@ -55,24 +55,34 @@ Core s rows =
     HeldCore rows (s .args .ids .now) (s .args .kinds .now) (s .args .priorities .now) (s .args .periods .now) (s .args .deadlines .now)
     (s .args .counts .now) (s .args .costs .now) (s .args .longest .now) (s .args .times .now)
 
+-- the function's entry
+abbrev entry : tie.After-windows2 → tie.Start
+entry c = c .before .before .before .before .before .before .before .before .before .before .before .before .before .before
+
+-- the call that works out the windows
+abbrev windows-call : tie.After-windows4 → tie.After-windows2
+windows-call c = c .before .before
+
 -- the windows
-lengths-of : (c : tie.After-windows2) (rows : List Task) → Core (c .before .before .before .before .before .before .before .before .before .before .before .before .before .before) rows → Lengths rows (c .windows2 .last .1 .1 .1 .1 .1 .0)
+lengths-of : (c : tie.After-windows2) (rows : List Task) → Core (entry c) rows → Lengths rows (c .windows2 .last .1 .1 .1 .1 .1 .0)
 lengths-of c rows h = (_, c .windows2 .ensures rows (h .held) .whole)
 
 -- they are the numbers that are looked at
-lengths-are : (c : tie.After-windows4) (rows : List Task) → Core (c .before .before .before .before .before .before .before .before .before .before .before .before .before .before .before .before) rows
-    → take (length (c .before .before .before .before .before .before .before .before .before .before .before .before .before .before .before .before .args .ids .now)) (c .before .before .windows2 .last .1 .1 .1 .1 .1 .0) ≡ map (windowLength rows) rows
+lengths-are : (c : tie.After-windows4) (rows : List Task) → Core (entry (windows-call c)) rows
+    → take (length (entry (windows-call c) .args .ids .now)) (c .before .before .windows2 .last .1 .1 .1 .1 .1 .0) ≡ map (windowLength rows) rows
 lengths-are c rows h = let w = lengths-of (c .before .before) rows h in front-is (windowLength rows) rows _ (w .0) (w .1) _ (ids-length h)
 
 -- the id of the highest row without a window
-none-is : (c : tie.After-highest-zero) (rows : List Task) → Core (c .before .before .before .before .before .before .before .before .before .before .before .before .before .before .before .before .before) rows
+none-is : (c : tie.After-highest-zero) (rows : List Task) → Core (entry (windows-call (c .before))) rows
     → c .highest-zero .result ≡ idOf (highest (isZero (windowLength rows)) rows)
 none-is c rows h = c .highest-zero .ensures rows (windowLength rows) (numbers-held h (windowLength rows) _ (lengths-are (c .before) rows h))
 
 -- where there is none all rows have a window
-windows-of : (c : tie.Else2) (rows : List Task) → Core (c .before .before .before .before .before .before .before .before .before .before .before .before .before .before .before .before .before .before) rows
-    → HeldWindows rows (take (length (c .before .before .before .before .before .before .before .before .before .before .before .before .before .before .before .before .before .before .args .ids .now)) (c .before .before .before .before .windows2 .last .1 .1 .1 .1 .1 .0)) (c .before .before .before .before .before .before .before .sum-of .result)
-    (length (c .before .before .before .before .before .before .before .before .before .before .before .before .before .before .before .before .before .before .args .room .now))
+windows-of : (c : tie.Else2) (rows : List Task) → Core (entry (windows-call (c .before .before))) rows
+    → HeldWindows rows
+    (take (length (entry (windows-call (c .before .before)) .args .ids .now)) (c .before .before .before .before .windows2 .last .1 .1 .1 .1 .1 .0))
+    (c .before .before .before .before .before .before .before .sum-of .result)
+    (length (entry (windows-call (c .before .before)) .args .room .now))
 windows-of c rows h =
     let counted = c .before .before .before .before .before .before .before .sum-of .ensures ∙ counts-sum h in
     record {
@@ -152,7 +162,8 @@ slice-aggregate-judge-bounds c =
 judge-bounds-requires : tie.Need-judge-bounds-requires
 judge-bounds-requires c κs =
     let c2 = c .before .before in
-    let c20 = c2 .before .before .before .before .before .before .before .before .before .before .before .before .before .before .before .before .before .before in
+    let far = c2 .before .before .before .before .before .before .before .before .before .before .before .before in
+    let c20 = far .before .before .before .before .before .before in
     let p = c20 .pre in (p .0, p .1, windows-of (c2) _ (p .1))
 
 same-length : tie.Need-same-length

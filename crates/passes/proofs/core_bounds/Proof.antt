@@ -1,13 +1,14 @@
 -- `passes::core_bounds` meets its contract: the preemptive rows are gathered once, then the bounds are worked out row by row.
 use Prim.Native.Nat.{ℕ, _≤_}
 use mathlib.Core.Path.{_≡_, sym, ap, _∙_}
-use mathlib.Core.List.{List, _++_, map}
+use mathlib.Core.List.{List, map}
 use native.Mathlib.Omega.{arith}
 use borrow.Author.Needs.{needs}
-use lib.ListN.{length, take, drop, length-append}
-use lib.Seq.{take-at, length-take-le}
+use lib.ListN.{length, take, drop}
+use lib.Seq.{length-take-le}
 use Rattle.lists.specs.Lists.{keep}
 use Rattle.lists.proofs.Maps.{map-length}
+use Rattle.lists.proofs.MapFronts.{front-fits, front-is}
 use Rattle.model.specs.Task.{Task, cost}
 use Rattle.model.specs.Bounds.{preemptive}
 use Rattle.gather.specs.Picked.{HeldKinds, Front}
@@ -32,11 +33,11 @@ module _ (f : Task → ℕ) (rows : List Task) (old new : List ℕ) (k n : ℕ) 
     (m : n ≡ length (keep preemptive rows)) where
   -- there are so many
   fits : n ≤ length new
-  fits = omega (arith, ap length (w .whole), length-append (map f (keep preemptive rows)) (drop k old), map-length f (keep preemptive rows))
+  fits = omega (arith, front-fits f (keep preemptive rows) new (drop k old) (w .whole))
 
   -- those in front
   front : take n new ≡ map f (keep preemptive rows)
-  front = rw (w .whole) (take-at _ _ n (map-length f (keep preemptive rows) ∙ sym m))
+  front = front-is f (keep preemptive rows) new (drop k old) (w .whole) n m
 
 -- as many as there are preemptive rows
 counted : (f : Task → ℕ) (rows : List Task) (old new : List ℕ) (n : ℕ) → Front (map f (keep preemptive rows)) old new n
@@ -71,7 +72,8 @@ gather-preemptive-requires-2 c κs =
 
 array-share-prefix-pp : tie.Need-array-share-prefix-pp
 array-share-prefix-pp c =
-    let p = c .before .before .before .before .before .before .before .before .before .before .before .before .before .before .before .pre in
+    let far = c .before .before .before .before .before .before .before .before .before .before .before .before in
+    let p = far .before .before .before .pre in
     fits _ _ _ _ _ _ (c .before .before .before .before .gather-preemptive .ensures .1 _ _ (of-periods _ _ _ _ _ _ (p .2)))
     (counted _ _ _ _ _ (c .before .gather-preemptive2 .ensures .1 _ _ (of-costs _ _ _ _ _ _ (p .2))))
 

@@ -1,7 +1,7 @@
 -- `passes::deadlines_met` meets its contract: i of the rows are looked at, and the bounds of row i begin at `end`.
 use Prim.Native.Nat.{ℕ, _+_, _-_, _≤_, _<_}
-use mathlib.Core.Path.{_≡_, refl, sym, ap, ap₂, _∙_}
-use mathlib.Core.List.{List, _++_}
+use mathlib.Core.Path.{_≡_, refl, ap, ap₂, _∙_}
+use mathlib.Core.List.{List}
 use native.Mathlib.Omega.{arith}
 use borrow.Author.Needs.{needs}
 use lib.ListN.{length, getD, take, length-set, length-append}
@@ -92,7 +92,8 @@ abbrev called : tie.In-loop Inv-loop μ-loop → tie.Start Inv-loop μ-loop
 called c = c .before .before .before .before .before .before
 
 at-row : (c : tie.In-loop Inv-loop μ-loop)
-    → Here _ _ _ _ (called c .pre .0 .1) (c .before .loop .end) (c .before .loop .i) (c .loop-test .taken) (c .before .loop .inv .begins _ (called c .pre .0 .1))
+    → Here _ _ _ _ (called c .pre .0 .1) (c .before .loop .end) (c .before .loop .i) (c .loop-test .taken)
+    (c .before .loop .inv .begins _ (called c .pre .0 .1))
 at-row c = here _ _ _ _ (called c .pre .0 .1) _ _ (c .loop-test .taken) (c .before .loop .inv .begins _ (called c .pre .0 .1))
 
 loop-holds : tie.Need-loop-holds Inv-loop μ-loop

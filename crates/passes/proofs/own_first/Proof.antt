@@ -1,16 +1,14 @@
 -- `passes::own_first` meets its contract: the periods are gathered, then the costs.
-use Prim.Native.Nat.{ℕ, _≤_}
-use mathlib.Core.Path.{_≡_, sym, _∙_}
+use Prim.Native.Nat.{ℕ}
+use mathlib.Core.Path.{_∙_}
 use mathlib.Core.List.{List, _∷_}
-use native.Mathlib.Omega.{arith}
 use borrow.Author.Needs.{needs}
-use lib.ListN.{length}
 use Rattle.lists.specs.Lists.{Place}
 use Rattle.lists.proofs.Maps.{map-length}
 use Rattle.model.specs.Task.{Task, cost}
 use Rattle.model.specs.Bounds.{higher}
-use Rattle.gather.specs.Picked.{Held, Front}
-use Rattle.passes.specs.Held.{HeldRows, OwnFirst}
+use Rattle.gather.specs.Picked.{Held}
+use Rattle.passes.specs.Held.{HeldRows}
 use Rattle.passes.proofs.own_first.Statement.{statement}
 use Rattle.passes.proofs.own_first.Tie as tie
 

@@ -1,12 +1,10 @@
 -- `passes::row_bounds` meets its contract: the blocking, the rows that are gathered, and their bounds.
-use Prim.Native.Nat.{ℕ, _≤_, _<_}
-use mathlib.Core.Path.{_≡_, sym, ap, _∙_}
-use mathlib.Core.List.{List}
+use Prim.Native.Nat.{_<_}
+use mathlib.Core.Path.{sym}
 use native.Mathlib.Omega.{arith}
 use borrow.Author.Needs.{needs}
 use lib.ListN.{length}
 use lib.Seq.{length-take-le}
-use Rattle.model.specs.Task.{Task}
 use Rattle.passes.proofs.Own.{periods-fit, costs-fit, own-below, own-longest, priorities-few, own-gathered}
 use Rattle.passes.proofs.row_bounds.Statement.{statement}
 use Rattle.passes.proofs.row_bounds.Tie as tie

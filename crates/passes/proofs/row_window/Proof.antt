@@ -4,7 +4,7 @@ use mathlib.Core.Path.{_≡_, sym, ap, _∙_}
 use mathlib.Core.List.{List}
 use native.Mathlib.Omega.{arith}
 use borrow.Author.Needs.{needs}
-use lib.ListN.{length, length-replicate}
+use lib.ListN.{length}
 use lib.Seq.{length-take-le}
 use Rattle.lists.specs.Lists.{Place}
 use Rattle.model.specs.Task.{Task}
@@ -90,17 +90,25 @@ Own s rows t =
     Place rows (s .args .own) t
     × HeldRows rows (s .args .kinds .now) (s .args .priorities .now) (s .args .periods .now) (s .args .costs .now) (s .args .longest .now)
 
+-- the call that gathers, and the function's entry
+abbrev gather-call : tie.After-value-of → tie.After-own-first
+gather-call c = c .before .before .before .before .before .before
+
+abbrev entry : tie.After-own-first → tie.Start
+entry c = c .before .before .before .before .before .before .before .before .before .before
+
 -- the answer for each such row
-answered : (c : tie.After-value-of) (rows : List Task) (t : Task) → Own (c .before .before .before .before .before .before .before .before .before .before .before .before .before .before .before .before) rows t → c .value-of .result ≡ windowLength rows t
+answered : (c : tie.After-value-of) (rows : List Task) (t : Task) → Own (entry (gather-call c)) rows t → c .value-of .result ≡ windowLength rows t
 answered c rows t w =
-    let first = c .before .before .before .before .before .before .own-first .ensures rows t _ _ (w .0) (w .1) in
-    let blocked = c .before .before .before .before .before .before .before .before .before .blocking-of .ensures rows t (own-longest rows t _ _ _ _ _ _ (w .0) (w .1)) in
+    let first = gather-call c .own-first .ensures rows t _ _ (w .0) (w .1) in
+    let blocked = gather-call c .before .before .before .blocking-of .ensures rows t (own-longest rows t _ _ _ _ _ _ (w .0) (w .1)) in
     let asked = own-demanded rows t _ _ _ _ _ _ (w .0) (w .1) _ _ _ _ first blocked in
     length-is rows t _ _ (c .value-of .ensures) (c .before .window-of .ensures rows t asked)
 
 cast-result : tie.Need-cast-result
 cast-result c =
-    let c16 = c .before .before .before .before .before .before .before .before .before .before .before .before .before .before .before .before in
+    let far = c .before .before .before .before .before .before .before .before .before .before .before .before in
+    let c16 = far .before .before .before .before in
     let w = c16 .pre in
     let small = length-small _ _ _ (answered c _ _ (w .2, w .3)) in
     omega (arith, small)

@@ -3,7 +3,6 @@ use Prim.Native.Nat.{ℕ, _+_, _-_, _≤_, _<_}
 use mathlib.Core.Path.{_≡_, refl, sym, ap, _∙_}
 use mathlib.Core.List.{List, _++_}
 use native.Mathlib.Omega.{arith}
-use borrow.Author.Needs.{needs}
 use borrow.Rule.Slice.PartMut.{same-len-mid}
 use lib.ListN.{length, getD, take, drop}
 use lib.Seq.{take-all}
@@ -20,7 +19,7 @@ use Rattle.passes.proofs.rows_bounds.Tie as tie
 
 -- the bounds of i rows stand, and those of row i begin at a
 record Stand (ks ps ts cs ls pp pc ws ns xs room₀ room : List ℕ) (a i : ℕ) : Type 0 where
-  few : i ≤ length ns
+  few : i ≤ length ws
   same : length room ≡ length room₀
   begins : (rows : List Task) → HeldParts rows ws ns xs → a ≡ total parts (take i rows)
   is : (rows : List Task) → HeldRows rows ks ps ts cs ls → HeldPreemptive rows pp pc → HeldParts rows ws ns xs
@@ -32,18 +31,18 @@ record Here (rows : List Task) (ws ns xs : List ℕ) (room : ℕ) (a i : ℕ) : 
   few : i < 64
   row : Place rows i t
   count : getD ns i 0 ≡ parts t
-  inside : i < length ws
+  inside : i < length ns
   times : a + getD ns i 0 ≤ length xs
   bounds : a + getD ns i 0 ≤ room
 
-here : (rows : List Task) (ws ns xs : List ℕ) (h : HeldParts rows ws ns xs) (room a i : ℕ) → length rows ≤ 64 → i < length ns → total parts rows ≤ room
-    → a ≡ total parts (take i rows) → Here rows ws ns xs room a i
+here : (rows : List Task) (ws ns xs : List ℕ) (h : HeldParts rows ws ns xs) (room a i : ℕ) → length rows ≤ 64
+    → i < length ws → total parts rows ≤ room → a ≡ total parts (take i rows) → Here rows ws ns xs room a i
 here rows ws ns xs h room a i small q fits at =
-    let w = row-of parts rows ns i (h .parts) q in
+    let w = row-of (windowLength rows) rows ws i (h .windows) q in
     let count = number-of parts rows ns i (w .0) (h .parts) (w .1) in
     record {
       t = w .0;
-      few = omega (arith, ap length (h .parts), map-length parts rows);
+      few = omega (arith, ap length (h .windows), map-length (windowLength rows) rows);
       row = w .1;
       count = count;
       inside =
@@ -53,14 +52,15 @@ here rows ws ns xs h room a i small q fits at =
     }
 
 -- past the last row all rows are taken
-all-taken : (rows : List Task) (ws ns xs : List ℕ) → HeldParts rows ws ns xs → (i : ℕ) → length ns ≤ i → take i rows ≡ rows
-all-taken rows ws ns xs h i past = take-all i rows (omega (arith, ap length (h .parts), map-length parts rows))
+all-taken : (rows : List Task) (ws ns xs : List ℕ) → HeldParts rows ws ns xs → (i : ℕ) → length ws ≤ i → take i rows ≡ rows
+all-taken rows ws ns xs h i past = take-all i rows (omega (arith, ap length (h .windows), map-length (windowLength rows) rows))
 
 abbrev Inv-loop : tie.InvT-loop
-Inv-loop kinds priorities periods costs longest pp pc windows counts times room₀ a₀ i₀ room a i = Stand kinds priorities periods costs longest pp pc windows counts times room₀ room a i
+Inv-loop kinds priorities periods costs longest pp pc windows counts times room₀ a₀ i₀ room a i =
+    Stand kinds priorities periods costs longest pp pc windows counts times room₀ room a i
 
 abbrev μ-loop : tie.MeasureT-loop
-μ-loop kinds priorities periods costs longest pp pc windows counts times room₀ a₀ i₀ room a i = length counts - i
+μ-loop kinds priorities periods costs longest pp pc windows counts times room₀ a₀ i₀ room a i = length windows - i
 
 -- the function's entry, as the loop sees it
 abbrev called : tie.In-loop Inv-loop μ-loop → tie.Start Inv-loop μ-loop
@@ -78,10 +78,10 @@ loop-holds : tie.Need-loop-holds Inv-loop μ-loop
 loop-holds c = record { few = omega arith; same = refl; begins = λ rows h. unfold total in refl; is = λ rows h k l. unfold chained in refl }
 
 mul-e : tie.Need-mul-e Inv-loop μ-loop
-mul-e c = omega arith
+mul-e c = omega (arith, at-row c .inside)
 
 shared-slice-read-e : tie.Need-shared-slice-read-e Inv-loop μ-loop
-shared-slice-read-e c = omega arith
+shared-slice-read-e c = at-row (c .before) .inside
 
 cast-e : tie.Need-cast-e Inv-loop μ-loop
 cast-e c = omega (arith, c .shared-slice-known11 .given (c .before .before .loop .i))
@@ -90,10 +90,10 @@ add-e : tie.Need-add-e Inv-loop μ-loop
 add-e c = omega (arith, at-row (c .before) .bounds)
 
 mul-window : tie.Need-mul-window Inv-loop μ-loop
-mul-window c = omega (arith, at-row (c .before) .inside)
+mul-window c = omega (arith, c .before .loop-test .taken)
 
 shared-slice-read-window : tie.Need-shared-slice-read-window Inv-loop μ-loop
-shared-slice-read-window c = at-row (c .before .before) .inside
+shared-slice-read-window c = c .before .before .loop-test .taken
 
 mul-own : tie.Need-mul-own Inv-loop μ-loop
 mul-own c = omega (arith, at-row (c .before .before) .times)
@@ -146,18 +146,19 @@ loop-again c =
     record {
       few = omega (arith, l .loop-test .taken);
       same =
-          same-len-mid {X = ℕ} (l .before .loop .a) (l .before .loop .a + getD (called l .args .counts .now) (l .before .loop .i) 0 - l .before .loop .a)
+          same-len-mid {X = ℕ} (l .before .loop .a)
+          (l .before .loop .a + getD (called l .args .counts .now) (l .before .loop .i) 0 - l .before .loop .a)
           (l .before .loop .room) (c2 .row-bounds .last .1 .1 .1 .1 .1 .1 .1 .1 .1 .1 .0)
           (c2 .row-bounds .kept .1 .1 .1 .1 .1 .1 .1 .1 .1 .1 .0)
           ∙ v .same;
       begins =
           λ rows h.
-          (let w = row-of parts rows _ _ (h .parts) (l .loop-test .taken) in
+          (let w = row-of (windowLength rows) rows _ _ (h .windows) (l .loop-test .taken) in
           let count = number-of parts rows _ _ (w .0) (h .parts) (w .1) in
           omega (arith, v .begins rows h, total-through (λ u. u .times) times-long rows _ (w .0) (w .1)));
       is =
           λ rows h k m.
-          (let w = row-of parts rows _ _ (m .parts) (l .loop-test .taken) in
+          (let w = row-of (windowLength rows) rows _ _ (m .windows) (l .loop-test .taken) in
           let count = number-of parts rows _ _ (w .0) (m .parts) (w .1) in
           put-part (rowBounds rows) (bounds-long rows) rows _ (w .0) (w .1) _ _ _ _ _ (v .is rows h k m) (v .begins rows m) count
           (c2 .row-bounds .ensures rows (w .0)
