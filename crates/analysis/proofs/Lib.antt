@@ -3,4 +3,3 @@ pub mod Given
 pub mod Columned
 pub mod Loaded
 pub mod Tabled
-pub mod Theorems

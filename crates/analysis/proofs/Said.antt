@@ -16,7 +16,7 @@ use Rattle.model.specs.Rows.{GoodTask}
 use Rattle.model.specs.Least.{found, value, Says}
 use Rattle.model.specs.Bounds.{limit, demand, window, meetsDeadline, highest, judgedBy, coreVerdict}
 use Rattle.model.specs.Verdict.{AllWindows, Judged}
-use Rattle.model.specs.MachineSample.{idOf}
+use Rattle.model.specs.Bounds.{idOf}
 use Rattle.model.proofs.Least.{least-says}
 use Rattle.model.proofs.Verdict.{verdict-says}
 use Rattle.model.proofs.Highest.{highest-same, none-highest, id-none, id-some}

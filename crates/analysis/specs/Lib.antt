@@ -1,3 +1,2 @@
 pub mod Analysis
 pub mod Promises
-pub mod Theorems

@@ -6,7 +6,7 @@ use Rattle.model.specs.Task.{part, parts, partsBefore, cost}
 use Rattle.model.specs.Least.{scan, least}
 use Rattle.model.specs.Bounds as bounds
 use Rattle.model.specs.Machine as machine
-use Rattle.model.specs.MachineSample.{periodic, idOf, ranIn}
+use Rattle.model.specs.MachineSample.{periodic, ranIn}
 
 -- who is pending, who is open
 tests : ℕ
@@ -20,7 +20,7 @@ steps = 0
 
 -- the ticks of a sample's run
 unfoldable pub machine-ticks : ℕ
-unfolding steps bounds.preemptive bounds.cooperative part parts periodic idOf ranIn
+unfolding steps bounds.preemptive bounds.cooperative part parts periodic bounds.idOf ranIn
 machine-ticks = 0
 
 -- the terms of the equations

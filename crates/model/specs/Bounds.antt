@@ -103,6 +103,11 @@ unfoldable pub highest : (Task → Bool) → List Task → Option Task
 highest p [] = none
 highest p (t ∷ ts) = pick (p t) (some (above t (highest p ts))) (highest p ts)
 
+-- its id, 0 for none
+unfoldable pub idOf : Option Task → ℕ
+idOf none = 0
+idOf (some t) = t .id
+
 -- what is said of a core: it passes, or the highest row that has no window up to the limit, or else that misses its deadline
 pub data CoreVerdict : Type 0 where
   passes : CoreVerdict

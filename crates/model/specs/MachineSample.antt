@@ -2,11 +2,11 @@
 use Prim.Native.Nat.{ℕ, zero, suc, _+_, _-_, _*_, _/_}
 use mathlib.Core.Path.{_≡_}
 use mathlib.Core.List.{List, [], _∷_, _++_}
-use mathlib.Core.Option.{Option, some, none}
 use lib.Dec.{eqb}
 use Rattle.lists.specs.Lists.{pick}
 use Rattle.model.specs.Task.{Task, part}
 use Rattle.model.specs.Rows.{GoodCore}
+use Rattle.model.specs.Bounds.{idOf}
 use Rattle.model.specs.Machine.{Run, runs, standAt, Allowed}
 use Rattle.model.specs.Samples.{a3, setA}
 
@@ -21,11 +21,6 @@ periodic first =
 -- such a run is allowed, whatever the first ticks
 unfoldable pub PeriodicAllowed : Type 0
 PeriodicAllowed = (rows : List Task) → GoodCore rows → (first : Task → ℕ) → Allowed rows (periodic first)
-
--- the id of a task, 0 for none
-unfoldable pub idOf : Option Task → ℕ
-idOf none = 0
-idOf (some task) = task .id
 
 -- the ids of the tasks that run in the first n ticks
 unfoldable pub ranIn : List Task → Run → ℕ → List ℕ

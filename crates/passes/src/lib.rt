@@ -7,7 +7,7 @@ ghost use lib.Dec.{leb};
 ghost use Rattle.lists.specs.Lists.{pick, Place, total};
 ghost use Rattle.model.specs.Task.{Task, parts};
 ghost use Rattle.model.specs.Bounds.{highest, rowBounds};
-ghost use Rattle.model.specs.MachineSample.{idOf};
+ghost use Rattle.model.specs.Bounds.{idOf};
 ghost use Rattle.passes.specs.Held.{chained, HeldRows, windowLength, HeldParts, HeldPreemptive, OwnFirst, InFront};
 ghost use Rattle.passes.specs.Held.{RowHeld, HeldBounds, meets, HeldNumbers, isZero, takes};
 

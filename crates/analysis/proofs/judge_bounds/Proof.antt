@@ -11,7 +11,7 @@ use Rattle.lists.specs.Lists.{total}
 use Rattle.lists.proofs.MapFronts.{front-fits, front-is}
 use Rattle.model.specs.Task.{Task, parts}
 use Rattle.model.specs.Bounds.{highest, rowBounds}
-use Rattle.model.specs.MachineSample.{idOf}
+use Rattle.model.specs.Bounds.{idOf}
 use Rattle.table.specs.declared.Verdict.the-variants.{Good, Missed}
 use Rattle.passes.specs.Held.{chained, meets, isZero}
 use Rattle.analysis.specs.Analysis.{needed, writes}

@@ -11,7 +11,7 @@ use lib.Seq.{length-take-le}
 use Rattle.lists.proofs.MapFronts.{front-fits, front-is}
 use Rattle.model.specs.Task.{Task}
 use Rattle.model.specs.Bounds.{highest, coreVerdict}
-use Rattle.model.specs.MachineSample.{idOf}
+use Rattle.model.specs.Bounds.{idOf}
 use Rattle.table.specs.declared.Verdict.the-variants.{NoRoom, NoWindow}
 use Rattle.passes.specs.Held.{windowLength, isZero}
 use Rattle.analysis.specs.Analysis.{needed, named, writes}

@@ -11,7 +11,7 @@ use Rattle.lists.proofs.Maps.{map-length}
 use Rattle.lists.proofs.Places.{place-some, place-map}
 use Rattle.model.specs.Task.{Task}
 use Rattle.model.specs.Bounds.{highest}
-use Rattle.model.specs.MachineSample.{idOf}
+use Rattle.model.specs.Bounds.{idOf}
 use Rattle.passes.specs.Held.{HeldNumbers, isZero, takes}
 use Rattle.passes.proofs.Tops.{topOf, taken, left}
 use Rattle.passes.proofs.highest_zero.Statement.{statement}
