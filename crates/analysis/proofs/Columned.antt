@@ -1,7 +1,7 @@
 -- A core's rows in columns: what the passes over them ask for. Assumes nothing.
 use Prim.Native.Nat.{ℕ, _≤_}
 use native.Mathlib.Omega.{arith}
-use mathlib.Core.Path.{_≡_, sym, ap, _∙_}
+use mathlib.Core.Path.{_≡_, ap, _∙_}
 use mathlib.Core.List.{List, _++_, map}
 use lib.ListN.{length}
 use Rattle.lists.specs.Lists.{total, sum}
@@ -17,10 +17,6 @@ module _ {rows : List Task} {is ks ps ts ds ns cs ls xs : List ℕ} (h : HeldCor
   -- as many ids as rows
   pub ids-length : length is ≡ length rows
   ids-length = ap length (h .ids) ∙ map-length (λ (u : Task). u .id) rows
-
-  -- and as many priorities
-  pub priorities-length : length ps ≡ length is
-  priorities-length = ap length (h .held .priorities) ∙ map-length (λ (u : Task). u .priority) rows ∙ sym ids-length
 
   -- no more kinds than an array of 64 holds
   pub kinds-few : length ks ≤ 64

@@ -3,7 +3,7 @@ ghost use mathlib.Core.List.{List};
 ghost use lib.ListN.{length};
 ghost use Rattle.model.specs.Task.{Task};
 ghost use Rattle.model.specs.Bounds.{coreVerdict};
-ghost use Rattle.analysis.specs.Analysis.{needed, named, Gives, Analyses, AnalysesTable};
+ghost use Rattle.analysis.specs.Analysis.{named, Gives, Analyses, AnalysesTable};
 ghost use Rattle.analysis.specs.Promises.{roomSaid, CoreTable, HeldCore, HeldWindows};
 use table::Table;
 use table::Verdict;

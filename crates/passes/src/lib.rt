@@ -23,7 +23,7 @@ fn takes_over(number: u32, priority: u32, top: u32) -> bool
 
 // The id of the highest row whose number is 0, or 0 where there is none.
 pub fn highest_zero(ids: &[u32], priorities: &[u32], numbers: &[u32]) -> u32
-    requires { ⌜ (length (now priorities) ≡ length (now ids)) × (length (now numbers) ≡ length (now ids)) ⌝ }
+    requires { ⌜ ((rows : List Task) × (f : Task → ℕ) × HeldNumbers rows f (now ids) (now priorities) (now numbers)) ⌝ }
     ensures { λ r. ⌜ ((rows : List Task) (f : Task → ℕ)
         → HeldNumbers rows f (now (ids .entry)) (now (priorities .entry)) (now (numbers .entry))
         → r ≡ idOf (highest (isZero f) rows)) ⌝ }

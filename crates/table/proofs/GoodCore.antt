@@ -103,10 +103,12 @@ module _ (c : ℕ) (ts : List Task) (few : length ts ≤ 64) (d : Distinct (onCo
 
 -- tasks that do not clash
 module _ (ts : List Task) (g : GoodTasks ts) where
+  -- no priority twice on a core
   priorities-apart : Apart (breaks R.SamePriority) (map rowOf ts)
   unfolding clashOf
   priorities-apart = rule-holds R.SamePriority (map rowOf ts) (first-good _ _ (then-good (broken R.SameId (map rowOf ts)) _ (g .apart)))
 
+  -- no cooperative row above a preemptive one
   kinds-apart : Apart (breaks R.KindsCrossed) (map rowOf ts)
   unfolding clashOf
   kinds-apart =

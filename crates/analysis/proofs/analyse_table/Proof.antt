@@ -10,10 +10,11 @@ use Rattle.analysis.proofs.Tabled.{faulty, no-core, some-core}
 use Rattle.analysis.proofs.analyse_table.Statement.{statement}
 use Rattle.analysis.proofs.analyse_table.Tie as tie
 
--- the rows and times of a table in memory, by its type
+-- the rows of a table in memory, by its type
 rows-there : (c : tie.Start) → length (c .args .t .rows) ≡ 64
 rows-there c = search (needs, length-mapped)
 
+-- and its times
 times-there : (c : tie.Start) → length (c .args .t .times) ≡ 1024
 times-there c = search needs
 

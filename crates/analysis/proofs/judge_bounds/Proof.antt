@@ -18,15 +18,16 @@ use Rattle.analysis.specs.Analysis.{needed, writes}
 use Rattle.analysis.specs.Promises.{HeldCore, HeldWindows}
 use Rattle.analysis.proofs.Said.{missed, none-missed}
 use Rattle.analysis.proofs.Given.{gives-all}
-use Rattle.analysis.proofs.Columned.{ids-length, priorities-length, counts-few, numbers-held, parts-held, bounds-held, room-enough}
+use Rattle.analysis.proofs.Columned.{ids-length, counts-few, numbers-held, parts-held, bounds-held, room-enough}
 use Rattle.analysis.proofs.judge_bounds.Statement.{statement}
 use Rattle.analysis.proofs.judge_bounds.Tie as tie
 
--- code 12 writes all bounds, and so does code 0
+-- code 12 writes all bounds
 missed-writes : (n : ℕ) → writes (Missed n) ≡ true
 unfolding writes
 missed-writes n = refl
 
+-- code 0 does too
 good-writes : writes Good ≡ true
 unfolding writes
 good-writes = refl
@@ -45,19 +46,21 @@ by-counts : (rows : List Task) (room room′ : List ℕ) → room′ ≡ chained
 unfolding needed
 by-counts rows room room′ e = e
 
--- the columns and the windows of rows, at the function's entry
+-- the columns of rows, at the function's entry
 abbrev Core : tie.Start → List Task → Type 0
 Core s rows =
     HeldCore rows (s .args .ids .now) (s .args .kinds .now) (s .args .priorities .now) (s .args .periods .now) (s .args .deadlines .now)
     (s .args .counts .now) (s .args .costs .now) (s .args .longest .now) (s .args .times .now)
 
+-- and their windows
 abbrev Windows : tie.Start → List Task → Type 0
 Windows s rows = HeldWindows rows (s .args .windows .now) (s .args .count) (length (s .args .room .now))
 
--- the call that writes the bounds, and the function's entry
+-- the call that writes the bounds
 abbrev core-call : tie.After-deadlines-met → tie.After-core-bounds
 core-call c = c .before .before .before .before .before
 
+-- the function's entry
 abbrev entry : tie.After-deadlines-met → tie.Start
 entry c = core-call c .before .before .before .before .before .before .before .before .before .before .before .before .before
 
@@ -113,11 +116,10 @@ slice-aggregate-highest-zero c =
 
 highest-zero-requires : tie.Need-highest-zero-requires
 highest-zero-requires c κs =
-    let c2 = c .before .before in
-    let far = c2 .before .before .before .before .before .before .before .before .before .before .before .before in
-    let c20 = far .before .before .before .before .before .before in
-    let p = c20 .pre in
-    (priorities-length (p .1), length-take-le _ _ (met-fits (p .0) _ _ (met-of (c2) _ (p .1) (p .2)) (ids-length (p .1))))
+    let m = c .before .before in
+    let p = entry m .pre in
+    let met = met-of m _ (p .1) (p .2) in
+    (p .0, meets (p .0), numbers-held (p .1) (meets (p .0)) _ (front-is (meets (p .0)) (p .0) _ (met .0) (met .1) _ (ids-length (p .1))))
 
 cast-t28 : tie.Need-cast-t28
 cast-t28 c = search needs

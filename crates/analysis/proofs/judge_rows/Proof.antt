@@ -18,15 +18,16 @@ use Rattle.analysis.specs.Analysis.{needed, named, writes}
 use Rattle.analysis.specs.Promises.{roomSaid, HeldCore, HeldWindows}
 use Rattle.analysis.proofs.Said.{no-window, all-windows}
 use Rattle.analysis.proofs.Given.{gives-none, gives-same}
-use Rattle.analysis.proofs.Columned.{ids-length, priorities-length, kinds-few, counts-sum, numbers-held}
+use Rattle.analysis.proofs.Columned.{ids-length, kinds-few, counts-sum, numbers-held}
 use Rattle.analysis.proofs.judge_rows.Statement.{statement}
 use Rattle.analysis.proofs.judge_rows.Tie as tie
 
--- codes 10 and 11 write nothing
+-- code 10 writes nothing
 room-writes : (n : ℕ) → writes (NoRoom n) ≡ false
 unfolding writes
 room-writes n = refl
 
+-- nor does code 11
 window-writes : (n : ℕ) → writes (NoWindow n) ≡ false
 unfolding writes
 window-writes n = refl
@@ -127,10 +128,8 @@ slice-aggregate-highest-zero c =
 
 highest-zero-requires : tie.Need-highest-zero-requires
 highest-zero-requires c κs =
-    let c2 = c .before .before in
-    let c16 = c2 .before .before .before .before .before .before .before .before .before .before .before .before .before .before in
-    let p = c16 .pre in
-    (priorities-length (p .1), length-take-le _ _ (lengths-fit (p .0) _ _ (lengths-of (c2) _ (p .1)) (ids-length (p .1))))
+    let p = entry (windows-call c) .pre in
+    (p .0, windowLength (p .0), numbers-held (p .1) (windowLength (p .0)) _ (lengths-are c (p .0) (p .1)))
 
 cast-t25 : tie.Need-cast-t25
 cast-t25 c = search needs

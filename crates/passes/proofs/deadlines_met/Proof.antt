@@ -43,6 +43,7 @@ module _ (rows : List Task) (ns ds xs : List ℕ) (h : HeldBounds rows ns ds xs)
       inDeadlines : i < length ds
       inBounds : end + getD ns i 0 ≤ length xs
 
+    -- it is there
     here : Here
     here =
         let w = row-of parts rows ns i (h .parts) inside in
@@ -87,10 +88,11 @@ Inv-loop counts deadlines bounds out₀ end₀ i₀ out end i = Stand counts dea
 abbrev μ-loop : tie.MeasureT-loop
 μ-loop counts deadlines bounds out₀ end₀ i₀ out end i = length counts - i
 
--- row i, as the loop sees it
+-- the function's entry, as the loop sees it
 abbrev called : tie.In-loop Inv-loop μ-loop → tie.Start Inv-loop μ-loop
 called c = c .before .before .before .before .before .before
 
+-- row i
 at-row : (c : tie.In-loop Inv-loop μ-loop)
     → Here _ _ _ _ (called c .pre .0 .1) (c .before .loop .end) (c .before .loop .i) (c .loop-test .taken)
     (c .before .loop .inv .begins _ (called c .pre .0 .1))

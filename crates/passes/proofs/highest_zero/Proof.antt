@@ -23,6 +23,15 @@ record Above (ids ps ns : List ℕ) (id top i : ℕ) : Type 0 where
   is : (rows : List Task) (f : Task → ℕ) → HeldNumbers rows f ids ps ns
       → (id ≡ idOf (highest (isZero f) (drop i rows))) × (top ≡ topOf (highest (isZero f) (drop i rows)))
 
+-- there are as many priorities and numbers as ids
+lengths : {rows : List Task} {f : Task → ℕ} {ids ps ns : List ℕ} → HeldNumbers rows f ids ps ns
+    → (length ps ≡ length ids) × (length ns ≡ length ids)
+lengths {rows = rows} {f = f} h =
+    let all = ap length (h .ids) ∙ map-length (λ (u : Task). u .id) rows in (
+      ap length (h .priorities) ∙ map-length (λ (u : Task). u .priority) rows ∙ sym all,
+      ap length (h .numbers) ∙ map-length f rows ∙ sym all,
+    )
+
 -- past the last row there is none
 none-above : (ids ps ns : List ℕ) → Above ids ps ns 0 0 (length ids)
 unfolding highest idOf topOf
@@ -44,6 +53,7 @@ module _ (ids ps ns : List ℕ) (id top i : ℕ) (a : Above ids ps ns id top i) 
     priority : getD ps (i - 1) 0 ≡ t .priority
     number : getD ns (i - 1) 0 ≡ f t
 
+  -- it is there
   here : (rows : List Task) (f : Task → ℕ) → HeldNumbers rows f ids ps ns → Here rows f
   here rows f h =
       let inside : i - 1 < length rows =
@@ -106,14 +116,14 @@ mul-takes-over : tie.Need-mul-takes-over Inv-loop μ-loop
 mul-takes-over c = omega arith
 
 shared-slice-read-takes-over : tie.Need-shared-slice-read-takes-over Inv-loop μ-loop
-shared-slice-read-takes-over c = omega (arith, c .before .before .loop .inv .few, c .before .before .before .before .before .before .pre)
+shared-slice-read-takes-over c = omega (arith, c .before .before .loop .inv .few, lengths (c .before .before .before .before .before .before .pre .2))
 
 mul-takes-over-2 : tie.Need-mul-takes-over-2 Inv-loop μ-loop
-mul-takes-over-2 c = omega (arith, c .before .before .loop .inv .few, c .before .before .before .before .before .before .pre)
+mul-takes-over-2 c = omega (arith, c .before .before .loop .inv .few, lengths (c .before .before .before .before .before .before .pre .2))
 
 shared-slice-read-takes-over-2 : tie.Need-shared-slice-read-takes-over-2 Inv-loop μ-loop
 shared-slice-read-takes-over-2 c =
-    omega (arith, c .before .before .before .loop .inv .few, c .before .before .before .before .before .before .before .pre)
+    omega (arith, c .before .before .before .loop .inv .few, lengths (c .before .before .before .before .before .before .before .pre .2))
 
 takes-over-requires : tie.Need-takes-over-requires Inv-loop μ-loop
 takes-over-requires c κs = search needs
@@ -128,13 +138,13 @@ mul-top : tie.Need-mul-top Inv-loop μ-loop
 mul-top c =
     let c6 = c .before .before .before .before .before .before in
     let c10 = c6 .before .before .before .before in
-    omega (arith, c6 .loop .inv .few, c10 .pre)
+    omega (arith, c6 .loop .inv .few, lengths (c10 .pre .2))
 
 shared-slice-read-top : tie.Need-shared-slice-read-top Inv-loop μ-loop
 shared-slice-read-top c =
     let c7 = c .before .before .before .before .before .before .before in
     let c11 = c7 .before .before .before .before in
-    omega (arith, c7 .loop .inv .few, c11 .pre)
+    omega (arith, c7 .loop .inv .few, lengths (c11 .pre .2))
 
 loop-less : tie.Need-loop-less Inv-loop μ-loop
 loop-less c = omega arith

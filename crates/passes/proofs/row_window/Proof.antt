@@ -90,10 +90,11 @@ Own s rows t =
     Place rows (s .args .own) t
     × HeldRows rows (s .args .kinds .now) (s .args .priorities .now) (s .args .periods .now) (s .args .costs .now) (s .args .longest .now)
 
--- the call that gathers, and the function's entry
+-- the call that gathers
 abbrev gather-call : tie.After-value-of → tie.After-own-first
 gather-call c = c .before .before .before .before .before .before
 
+-- the function's entry
 abbrev entry : tie.After-own-first → tie.Start
 entry c = c .before .before .before .before .before .before .before .before .before .before
 

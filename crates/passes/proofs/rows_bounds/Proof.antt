@@ -35,6 +35,7 @@ record Here (rows : List Task) (ws ns xs : List ℕ) (room : ℕ) (a i : ℕ) : 
   times : a + getD ns i 0 ≤ length xs
   bounds : a + getD ns i 0 ≤ room
 
+-- it is there
 here : (rows : List Task) (ws ns xs : List ℕ) (h : HeldParts rows ws ns xs) (room a i : ℕ) → length rows ≤ 64
     → i < length ws → total parts rows ≤ room → a ≡ total parts (take i rows) → Here rows ws ns xs room a i
 here rows ws ns xs h room a i small q fits at =
