@@ -21,8 +21,6 @@ use Rattle.model.specs.Verdict.{Judged}
 use Rattle.model.proofs.Least.{least-says}
 use Rattle.model.proofs.Verdict.{verdict-says}
 use Rattle.table.specs.declared.Verdict.{Verdict}
-use Rattle.table.specs.declared.Verdict.the-variants.{Good, EndsEarly, Malformed, OutOfRange, IdTwice, PriorityTwice}
-use Rattle.table.specs.declared.Verdict.the-variants.{KindsCrossed, TooManyTimes, Trailing, NoSuchCore, NoRoom, NoWindow, Missed}
 use Rattle.table.specs.Verdicts.{codeOf, numberOf}
 use Rattle.table.specs.Memory.{rowOf, allTimes}
 use Rattle.analysis.specs.Analysis.{needed, named, coreSaid}
@@ -86,35 +84,19 @@ bound-short core id part bound deadline c i p b d =
     rw (line-more (decimal core), line-more (decimal id), line-more (decimal part), line-more (decimal bound), line-last)
     (omega (arith, decimal-short 0 core c, decimal-short 4 id i, decimal-short 1 part p, decimal-short 7 bound b, decimal-short 7 deadline d))
 
--- two digits of code
-code-short : (v : Verdict) → codeOf v < 100
-code-short Good = lit< tt
-code-short (EndsEarly n) = lit< tt
-code-short (Malformed n) = lit< tt
-code-short (OutOfRange n) = lit< tt
-code-short (IdTwice n) = lit< tt
-code-short (PriorityTwice n) = lit< tt
-code-short (KindsCrossed n) = lit< tt
-code-short (TooManyTimes n) = lit< tt
-code-short (Trailing n) = lit< tt
-code-short (NoSuchCore n) = lit< tt
-code-short (NoRoom n) = lit< tt
-code-short (NoWindow n) = lit< tt
-code-short (Missed n) = lit< tt
-
 -- `core N code C number M`: a core's verdict carries an id
-core-line-short : (core : ℕ) (v : Verdict) → core < 10 → numberOf v < 100000 → length (coreLine core v) ≤ 28
+core-line-short : (core : ℕ) (v : Verdict) → core < 10 → codeOf v < 100 → numberOf v < 100000 → length (coreLine core v) ≤ 28
 unfolding coreLine
-core-line-short core v c n =
+core-line-short core v c k n =
     rw (line-more, line-more (decimal core), line-more, line-more (decimal (codeOf v)), line-more, line-last)
-    (omega (arith, decimal-short 0 core c, decimal-short 1 (codeOf v) (code-short v), decimal-short 4 (numberOf v) n))
+    (omega (arith, decimal-short 0 core c, decimal-short 1 (codeOf v) k, decimal-short 4 (numberOf v) n))
 
 -- `file code C number N`: a reading code carries at most twenty digits
-pub file-line-short : (v : Verdict) → numberOf v < 10 ^ 20 → length (fileLine v) ≤ 41
+pub file-line-short : (v : Verdict) → codeOf v < 100 → numberOf v < 10 ^ 20 → length (fileLine v) ≤ 41
 unfolding fileLine
-file-line-short v n =
+file-line-short v k n =
     rw (line-more, line-more, line-more (decimal (codeOf v)), line-more, line-last)
-    (omega (arith, decimal-short 1 (codeOf v) (code-short v), decimal-short 19 (numberOf v) n))
+    (omega (arith, decimal-short 1 (codeOf v) k, decimal-short 19 (numberOf v) n))
 
 -- ---- cores
 
@@ -140,11 +122,11 @@ lines-short core rows (t ∷ ts) c g =
     rw (length-append (rowLines core rows t) (linesOf core rows ts)) (omega (arith, add-mul (parts t) (total parts ts) 29))
 
 -- the task that a verdict names is one of the rows
-named-small : (rows : List Task) → AllGood rows → (v : CoreVerdict) → Judged rows v → numberOf (named v) < 100000
+named-small : (rows : List Task) → AllGood rows → (v : CoreVerdict) → Judged rows v → (codeOf (named v) < 100) × (numberOf (named v) < 100000)
 unfolding named
-named-small rows g passes j = lit< tt
-named-small rows g (noWindow t) j = omega (arith, g t (j .row) .id .most)
-named-small rows g (misses t) j = omega (arith, g t (j .row) .id .most)
+named-small rows g passes j = (lit< tt, lit< tt)
+named-small rows g (noWindow t) j = (lit< tt, omega (arith, g t (j .row) .id .most))
+named-small rows g (misses t) j = (lit< tt, omega (arith, g t (j .row) .id .most))
 
 -- a core: its lines, where there are any, and its verdict
 core-short : (tasks : List Task) (core : ℕ) → core ≤ 3 → AllGood tasks → length (coreText tasks core) ≤ needed (onCore core tasks) * 29 + 28
@@ -153,7 +135,8 @@ core-short tasks core c g =
     let rows : List Task = keep (λ t. eqb (t .core) core) tasks in
     let mine : AllGood rows = λ u m. g u (kept _ tasks u m .0) in
     let v = named (coreVerdict rows) in
-    let verdict = core-line-short core v (omega arith) (named-small rows mine (coreVerdict rows) (verdict-says rows)) in
+    let small = named-small rows mine (coreVerdict rows) (verdict-says rows) in
+    let verdict = core-line-short core v (omega arith) (small .0) (small .1) in
     let lines = lines-short core rows rows c mine in
     rw (said-is core rows c)
     (by-test (eqb (codeOf v) 11) (λ e. rw e (omega arith))
