@@ -1,23 +1,20 @@
 -- The text of a file: what reading says of it decides, and it is never longer than 29,842 bytes. Assumes nothing.
-use Prim.Native.Nat.{ℕ, _+_, _^_, _≤_, _<_}
-use native.Mathlib.Nat.{zero-add}
+use Prim.Native.Nat.{ℕ, _≤_}
 use native.Mathlib.Omega.{arith}
 use borrow.Author.Tests.{lt-ltb, le-ltb}
 use mathlib.Core.Logic.{⊎-elim}
 use mathlib.Core.Path.{_≡_, refl, sym, ap, _∙_}
-use mathlib.Core.List.{List, [], _∷_, _++_, map}
-use lib.ListN.{length, take, drop, length-map, length-append}
+use mathlib.Core.List.{List, _++_, map}
+use lib.ListN.{length, drop, length-map, length-append}
 use lib.Seq.{take-append-seam}
-use Rattle.lists.specs.Lists.{_∈_, padTo}
+use Rattle.lists.specs.Lists.{_∈_}
 use Rattle.lists.proofs.PadStores.{pad-length}
 use Rattle.lists.proofs.Tests.{never, either}
 use Rattle.numbers.specs.Numbers.{Bytes}
 use Rattle.model.specs.Task.{Task}
 use Rattle.model.specs.Rows.{GoodTask}
 use Rattle.table.specs.declared.Table.{Table}
-use Rattle.table.specs.declared.Verdict.{Verdict}
-use Rattle.table.specs.declared.Verdict.the-variants.{Good}
-use Rattle.table.specs.Verdicts.{codeOf, numberOf}
+use Rattle.table.specs.Verdicts.{codeOf}
 use Rattle.table.specs.Memory.{zeroRow, rowOf, allTimes, stored, tasksOf}
 use Rattle.table.specs.Faults.{faultOf}
 use Rattle.table.proofs.Codes.{is-good}

@@ -1,13 +1,13 @@
 -- Each bound's line has the id, the bound and the deadline of one and the same row. Assumes nothing.
-use Prim.Native.Nat.{ℕ, zero, suc, _+_, _/_, _%_, _≤_, _<_}
+use Prim.Native.Nat.{ℕ, zero, suc, _+_, _/_, _%_, _<_}
 use native.Mathlib.Nat.{add-zero, zero-add}
 use native.Mathlib.Omega.{arith}
 use borrow.Author.Tests.{ne-eqb}
 use mathlib.Core.Path.{_≡_, refl, sym, ap, _∙_}
 use mathlib.Core.List.{List, [], _∷_, _++_, map, append-assoc}
-use lib.ListN.{length, take}
-use lib.Dec.{eqb, ltb}
-use Rattle.lists.specs.Lists.{pick, total, Place}
+use lib.ListN.{take}
+use lib.Dec.{ltb}
+use Rattle.lists.specs.Lists.{total, Place}
 use Rattle.lists.proofs.Tests.{by-test}
 use Rattle.model.specs.Task.{Task, parts}
 use Rattle.model.specs.Bounds.{onCore, bound}

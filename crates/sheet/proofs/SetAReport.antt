@@ -1,8 +1,7 @@
 -- Set A's report is the one that document 01 prints, by computation. Assumes nothing.
 use Prim.Native.Nat.{ℕ}
 use mathlib.Core.Path.{_≡_, refl, ap, _∙_}
-use mathlib.Core.Bool.{_||_}
-use Rattle.lists.specs.Lists.{any, keep, total, sum, largest, listed}
+use Rattle.lists.specs.Lists.{any, keep, total, sum, largest}
 use Rattle.numbers.specs.Numbers.{groups, numberAt}
 use Rattle.model.specs.Least.{least, scan, found, value, maxBelow}
 use Rattle.model.specs.Task.{parts, part, partsBefore, cost}
@@ -49,8 +48,12 @@ unfolding ends bounds.meetsDeadline bounds.above bounds.highest bounds.judgedBy 
 verdicts = 0
 
 -- in printing
+lines : ℕ
+unfolding decimalIn decimal line each sheet.header sheet.boundLine sheet.coreLine
+lines = 0
+
 texts : ℕ
-unfolding decimalIn decimal line each sheet.header sheet.boundLine sheet.coreLine sheet.rowLines sheet.linesOf sheet.coreTextOf sheet.coreText sheet.goodText
+unfolding lines sheet.rowLines sheet.linesOf sheet.coreTextOf sheet.coreText sheet.goodText
 texts = 0
 
 -- the file is Set A

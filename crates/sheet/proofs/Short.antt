@@ -1,9 +1,8 @@
 -- How long the printed text is at most. Assumes nothing.
-use Prim.Native.Nat.{ℕ, zero, suc, _+_, _-_, _*_, _^_, _≤_, _<_, max}
-use native.Mathlib.Nat.{add-mul, zero-mul, zero-add}
+use Prim.Native.Nat.{ℕ, zero, suc, _+_, _*_, _^_, _≤_, _<_}
+use native.Mathlib.Nat.{add-mul}
 use native.Mathlib.Omega.{arith}
-use mathlib.Core.Path.{_≡_, refl, sym, ap, _∙_}
-use mathlib.Core.Bool.{Bool, true, false}
+use mathlib.Core.Path.{_≡_, refl, _∙_}
 use mathlib.Core.List.{List, [], _∷_, _++_, map, List·Memᴰ·head, List·Memᴰ·tail}
 use lib.ListN.{length, length-append}
 use lib.Dec.{eqb, lit<, lit≤}
@@ -23,7 +22,7 @@ use Rattle.model.proofs.Verdict.{verdict-says}
 use Rattle.table.specs.declared.Verdict.{Verdict}
 use Rattle.table.specs.Verdicts.{codeOf, numberOf}
 use Rattle.table.specs.Memory.{rowOf, allTimes}
-use Rattle.analysis.specs.Analysis.{needed, named, coreSaid}
+use Rattle.analysis.specs.Analysis.{needed, named}
 use Rattle.sheet.specs.Text.{decimal, line, each}
 use Rattle.sheet.specs.Sheet.{boundLine, coreLine, fileLine, header, rowLines, linesOf, coreTextOf, coreText, goodText}
 use Rattle.sheet.specs.Promises.{partsOn}

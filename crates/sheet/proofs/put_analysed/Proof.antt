@@ -1,11 +1,9 @@
 -- `sheet::put_analysed` meets its contract: what analysis gives for the core is what its text prints. Assumes nothing.
 use Prim.Native.Nat.{ℕ, _≤_}
-use native.Mathlib.Omega.{arith}
 use borrow.Author.Needs.{needs}
-use mathlib.Core.Path.{_≡_, refl, sym}
+use mathlib.Core.Path.{_≡_, refl}
 use mathlib.Core.List.{List}
 use lib.ListN.{length}
-use Rattle.model.specs.Bounds.{onCore}
 use Rattle.table.specs.declared.Table.{Table}
 use Rattle.table.specs.Verdicts.{codeOf}
 use Rattle.table.specs.Memory.{usedRows, tasksOf}

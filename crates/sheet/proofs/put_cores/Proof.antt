@@ -4,7 +4,6 @@ use native.Mathlib.Omega.{arith}
 use borrow.Author.Needs.{needs}
 use mathlib.Core.Path.{_≡_, refl}
 use mathlib.Core.List.{List}
-use lib.ListN.{length}
 use Rattle.table.specs.declared.Table.{Table}
 use Rattle.table.specs.Verdicts.{codeOf}
 use Rattle.table.specs.Memory.{tasksOf}

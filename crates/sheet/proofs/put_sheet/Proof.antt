@@ -1,10 +1,10 @@
 -- `sheet::put_sheet` meets its contract: a refused file prints its line, a good one its cores. Assumes nothing.
-use Prim.Native.Nat.{ℕ, _+_, _≤_, _<_, _^_}
+use Prim.Native.Nat.{ℕ, _≤_, _<_, _^_}
 use native.Mathlib.Omega.{arith}
 use borrow.Author.Needs.{needs}
-use mathlib.Core.Path.{_≡_, refl, sym, ap, _∙_}
+use mathlib.Core.Path.{_≡_, sym, _∙_}
 use mathlib.Core.List.{List}
-use lib.ListN.{length, getD}
+use lib.ListN.{length}
 use Rattle.numbers.specs.Numbers.{Bytes}
 use Rattle.table.specs.Verdicts.{codeOf}
 use Rattle.table.specs.Memory.{tasksOf}
