@@ -65,13 +65,16 @@ no-lines core row = refl
 
 -- the bounds of a row of the core stand in front
 module _ (rows : List Task) (t : Task) (others rest : List ℕ) where
+  -- as many as it has parts
   own-length : length (rowBounds rows t) ≡ length (t .times)
   unfolding rowBounds parts
   own-length = listed-length (bound rows t) (parts t)
 
+  -- they are the first
   own-front : take (length (t .times)) (rowBounds rows t ++ others ++ rest) ≡ rowBounds rows t
   own-front = rw append-assoc (take-at (rowBounds rows t) (others ++ rest) (length (t .times)) own-length)
 
+  -- and those of the others come next
   own-behind : drop (length (t .times)) (rowBounds rows t ++ others ++ rest) ≡ others ++ rest
   own-behind = rw append-assoc (drop-at (rowBounds rows t) (others ++ rest) (length (t .times)) own-length)
 
@@ -100,6 +103,7 @@ said-is core rows h = rw (le-ltb 3 core h, le-ltb (needed rows) (needed rows) (o
 
 -- without code 11 the bounds are written
 module _ (rows : List Task) (bounds : List ℕ) where
+  -- by the verdict of the core
   bounds-written : (v : CoreVerdict) → eqb (codeOf (named v)) 11 ≡ false
       → roomAfter (named v) rows bounds ≡ coreBounds rows ++ drop (needed rows) bounds
   unfolding named writes roomAfter
@@ -124,6 +128,7 @@ module _ (t : Table) (rows : length (t .rows) ≡ 64) (times : length (t .times)
   room-fits : needed (onCore core (tasksOf t)) ≤ 1024
   room-fits = omega (arith, needed-fits core (tasksOf t), times-fit 0 (tasksOf t) (omega arith) (tasks-good t rows times e .fine))
 
+  -- so a table's 1,024 are enough
   pub enough : (bounds : ℕ) → bounds ≡ 1024 → Enough core t bounds
   enough bounds long =
       record {
@@ -132,6 +137,7 @@ module _ (t : Table) (rows : length (t .rows) ≡ 64) (times : length (t .times)
         most = omega arith;
       }
 
+  -- and what is printed from them is the text of the core
   pub text-is : (bounds : List ℕ) → length bounds ≡ 1024 → (a : Analysed) (bounds′ : List ℕ)
       → Gives (tableSaid t core (length bounds)) (onCore core (tasksOf t)) bounds a bounds′
       → coreBytes core (usedRows t) bounds′ (a .verdict) ≡ coreText (tasksOf t) core

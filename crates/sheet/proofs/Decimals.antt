@@ -31,6 +31,7 @@ pub decimal-more : (n : ℕ) → 10 ≤ n → decimal n ≡ decimal (n / 10) ++ 
 unfolding decimal decimalIn
 decimal-more n h = rw (le-ltb n 10 h, more-fuel n (suc (n / 10)) (n / 10) (omega arith) (omega arith))
 
+-- both equations hold
 pub decimals : Decimal
 decimals = record { one = decimal-one; more = decimal-more }
 

@@ -49,6 +49,7 @@ pub record Good-file (s : List ℕ) (l : Loaded) : Type 0 where
   pub fine : codeOf (faultOf (l .table)) ≡ 0
   pub text : sheetText s ≡ goodText (tasksOf (l .table))
 
+-- so where the verdict is good
 pub good-text : (s : List ℕ) → Bytes s → (l : Loaded) → l ≡ readAnswer s → codeOf (l .verdict) ≡ 0 → Good-file s l
 unfolding sheetText readAnswer textOf
 good-text s bs l e z = of-step (decode s) refl
@@ -73,6 +74,7 @@ tasks-each ts g few u m =
     let times = pad-length 0 1024 (allTimes ts) few in
     each-good (stored ts) rows times (stored-good ts g) u (rw (tasks-stored ts) m)
 
+-- the text of any file
 pub text-is-short : TextIsShort
 unfolding sheetText textOf
 text-is-short s bs few = of-step (decode s) refl
@@ -84,6 +86,7 @@ text-is-short s bs few = of-step (decode s) refl
         let times : length (allTimes ts) ≤ 1024 = omega (arith, times-fit 0 ts (omega arith) (good .fine)) in
         unfold textOf in good-short ts (tasks-each ts good times) times
 
+-- so it always fits that many bytes
 pub text-is-printed : TextIsPrinted
 unfolding printAnswer printed
 text-is-printed s bs few out r out′ p h =

@@ -38,6 +38,7 @@ decimal-in-feeds (suc k) n =
     by-test (ltb n 10) (λ e. rw e (digit-feeds n))
     (λ e. rw (e, feeds-append (decimalIn k (n / 10)) (digit (n % 10) ∷ [])) (omega (arith, decimal-in-feeds k (n / 10), digit-feeds (n % 10))))
 
+-- at any length
 decimal-feeds : (n : ℕ) → feeds (decimal n) ≡ 0
 unfolding decimal
 decimal-feeds n = decimal-in-feeds (suc n) n
@@ -53,6 +54,7 @@ numbers-feeds n (m ∷ ns) =
     space-feeds : feeds (32 ∷ []) ≡ 0
     space-feeds = unfold feeds in refl
 
+-- so has the line of a bound
 bound-feeds : (core id part b deadline : ℕ) → feeds (boundLine core id part b deadline) ≡ 1
 unfolding boundLine
 bound-feeds core id part b deadline = numbers-feeds core (id ∷ part ∷ b ∷ deadline ∷ [])
@@ -106,18 +108,22 @@ module _ (core : ℕ) (rows : List Task) where
   lineOf : Task → ℕ → List ℕ
   lineOf t r = boundLine core (t .id) (r + 1) (bound rows t r) (t .deadline)
 
+  -- it has one line feed
   one-each : (t : Task) (r : ℕ) → feeds (lineOf t r) ≡ 1
   unfolding lineOf
   one-each t r = bound-feeds core (t .id) (r + 1) (bound rows t r) (t .deadline)
 
+  -- it stands behind the lines of the parts before
   in-row : (t : Task) (r : ℕ) → r < parts t → LineAt (rowLines core rows t) r (lineOf t r)
   unfolding rowLines lineOf
   in-row t r h = rw (zero-add r) at (piece-at (lineOf t) (one-each t) 0 (parts t) r h)
 
+  -- a row has a line for each part
   row-feeds : (t : Task) → feeds (rowLines core rows t) ≡ parts t
   unfolding rowLines lineOf
   row-feeds t = each-feeds (lineOf t) (one-each t) 0 (parts t)
 
+  -- in the lines of rows it stands behind those of the rows before
   in-lines : (ts : List Task) (i : ℕ) (t : Task) → Place ts i t → (r : ℕ) → r < parts t
       → LineAt (linesOf core rows ts) (needed (take i ts) + r) (lineOf t r)
   unfolding linesOf needed total Place
@@ -128,6 +134,7 @@ module _ (core : ℕ) (rows : List Task) where
       = omega (arith, row-feeds u) in
       rw (← count) (line-after (rowLines core rows u) (in-lines ts i t p r h))
 
+-- and so in the text of the core
 pub line-of-its-row : LineOfItsRow
 unfolding coreText coreTextOf lineOf
 line-of-its-row tasks core some i t p r h =

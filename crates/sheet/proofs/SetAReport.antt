@@ -22,10 +22,12 @@ numbersRead : ℕ
 unfolding groups numberAt good judge reading._then_ reading.unless reading.asked reading.fieldAt reading.fieldsAt
 numbersRead = 0
 
+-- the rules over the table
 rules : ℕ
 unfolding any _orElse_ clash.coopAbove clash.breaks clash.clashAfter clash.broken clash.clashOf
 rules = 0
 
+-- the whole file
 rowsRead : ℕ
 unfolding numbersRead rules head allTimes reading.rowAt reading.rowsAt reading.endAt reading.decode
 rowsRead = 0
@@ -35,14 +37,17 @@ sides : ℕ
 unfolding keep total sum largest parts part partsBefore cost least scan found value maxBelow bounds.limit bounds.up bounds.down
 sides = 0
 
+-- the window
 windows : ℕ
 unfolding sides bounds.before bounds.through bounds.preemptive bounds.cooperative bounds.higher bounds.lower bounds.blocking bounds.demand
 windows = 0
 
+-- the ends of parts
 ends : ℕ
 unfolding windows bounds.window bounds.jobs bounds.preemptiveEnd bounds.start bounds.endFrom bounds.finish bounds.response bounds.bound
 ends = 0
 
+-- the verdict of a core
 verdicts : ℕ
 unfolding ends bounds.meetsDeadline bounds.above bounds.highest bounds.judgedBy bounds.coreVerdict bounds.onCore needed named coreSaid
 verdicts = 0
@@ -52,6 +57,7 @@ lines : ℕ
 unfolding decimalIn decimal line each sheet.header sheet.boundLine sheet.coreLine
 lines = 0
 
+-- the cores
 texts : ℕ
 unfolding lines sheet.rowLines sheet.linesOf sheet.coreTextOf sheet.coreText sheet.goodText
 texts = 0
@@ -66,6 +72,7 @@ prints : sheet.goodText (setA 20) ≡ reportA
 unfolding verdicts texts
 prints = refl
 
+-- so the file prints it
 pub set-a-report : SetAReport
 unfolding sheet.sheetText sheet.textOf
 set-a-report = ap sheet.textOf read ∙ prints

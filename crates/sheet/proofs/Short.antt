@@ -38,6 +38,7 @@ unfolding value
 value-most g from (At x) s = s .within
 value-most g from Nothing s = omega arith
 
+-- so is the least solution
 least-most : (g : ℕ → ℕ) (from : ℕ) → value (least g from limit) ≤ limit
 least-most g from = value-most g from (least g from limit) (least-says g from limit)
 
@@ -48,17 +49,20 @@ max-most h zero m e = omega arith
 max-most h (suc n) m e = omega (arith, max-most h n m e, e n)
 
 module _ (rows : List Task) (t : Task) (r : ℕ) where
+  -- a cooperative end
   end-most : (j : ℕ) (x : Found) → value (endFrom rows t r j x) ≤ limit
   unfolding endFrom
   end-most j (At s) = least-most _ _
   end-most j Nothing = unfold value in omega arith
 
+  -- either end
   finish-most : (j : ℕ) → value (finish rows t r j) ≤ limit
   unfolding finish preemptiveEnd
   finish-most j =
       by-test (cooperative t) (λ e. rw (e, finish) (end-most j (start rows t r j)))
       (λ e. rw (e, finish) (least-most _ _))
 
+  -- so the largest response
   bound-most : bound rows t r ≤ 16777215
   unfolding bound response limit
   bound-most = max-most _ (jobs rows t) 16777215 (λ j. omega (arith, finish-most j))
