@@ -47,6 +47,7 @@ or-small : (v w : Verdict) (m : ℕ) → numberOf v ≤ m → numberOf w ≤ m �
 unfolding _orElse_
 or-small v w m h k = by-test (good v) (λ e. rw e k) (λ e. rw e h)
 
+-- so is the first clash of the three rules
 clash-small : (rows : List Row) → numberOf (clashOf rows) ≤ length rows
 unfolding clashOf
 clash-small rows =
@@ -108,6 +109,7 @@ module _ (s : List ℕ) (bs : Bytes s) where
   asked-near w at h N.EndsEarly e = omega arith
   asked-near w at h N.Malformed e = omega arith
 
+  -- so a number that is wanted at a place
   field-near : (w : Wanted) (at : ℕ) → at ≤ length s → Near (λ v. v ≤ w .high) (fieldAt w s at)
   unfolding fieldAt
   field-near w at h = asked-near w at h (numberAt s at) refl
@@ -159,6 +161,7 @@ module _ (s : List ℕ) (bs : Bytes s) where
       (λ count at h most. then-near (λ (ts : List Task). length ts ≡ 0 + count) Any (rowsAt count [] s at) _ (rows-near count [] at h)
       (λ ts n k all. let few : length ts ≡ 0 + count = all in let m : count ≤ 64 = most in end-near ts n k (omega arith)))
 
+  -- the number that a refused file carries
   pub carried : (v : Verdict) → decode s ≡ stop v → numberOf v ≤ length s + 64
   unfolding Near
   carried v e = rw e at file-near

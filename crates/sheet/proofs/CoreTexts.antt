@@ -1,23 +1,22 @@
 -- What is printed of a core, from the table's rows and the bounds that were written, is the core's text. Assumes nothing.
-use Prim.Native.Nat.{ℕ, zero, suc, _+_, _≤_, _<_}
-use native.Mathlib.Nat.{add-zero, zero-add}
+use Prim.Native.Nat.{ℕ, _+_, _≤_}
+use native.Mathlib.Nat.{zero-add}
 use native.Mathlib.Omega.{arith}
-use borrow.Author.Tests.{lt-ltb, le-ltb, eq-eqb}
-use mathlib.Core.Path.{_≡_, refl, sym, ap, ap₂, _∙_}
-use mathlib.Core.Bool.{Bool, true, false, _||_}
+use borrow.Author.Tests.{le-ltb}
+use mathlib.Core.Path.{_≡_, refl, ap, _∙_}
+use mathlib.Core.Bool.{false}
 use mathlib.Core.List.{List, [], _∷_, _++_, map, append-assoc}
-use lib.ListN.{length, getD, take, drop, length-append}
+use lib.ListN.{length, take, drop, length-append}
 use lib.Seq.{take-at, drop-at}
-use lib.Dec.{eqb, ltb}
-use Rattle.lists.specs.Lists.{pick, keep, total, listed}
+use lib.Dec.{eqb}
+use Rattle.lists.specs.Lists.{keep, total}
 use Rattle.lists.proofs.Listed.{listed-length, listed-at}
 use Rattle.lists.proofs.Tests.{by-test, never}
 use Rattle.model.specs.Task.{Task, parts}
 use Rattle.model.specs.Bounds.{onCore, bound, rowBounds, CoreVerdict, passes, noWindow, misses, coreVerdict}
 use Rattle.table.specs.declared.Row.{Row}
 use Rattle.table.specs.declared.Table.{Table}
-use Rattle.table.specs.declared.Verdict.{Verdict}
-use Rattle.table.specs.Verdicts.{codeOf, _orElse_}
+use Rattle.table.specs.Verdicts.{codeOf}
 use Rattle.table.specs.Memory.{rowOf, allTimes, usedRows, tasksOf}
 use Rattle.table.specs.Faults.{faultOf}
 use Rattle.table.proofs.Codes.{or-good}
@@ -25,7 +24,7 @@ use Rattle.table.proofs.GoodTasks.{times-fit, count-few, rows-same, tasks-good}
 use Rattle.analysis.specs.declared.Analysed.{Analysed}
 use Rattle.analysis.specs.Analysis.{needed, boundsOf, coreBounds, named, coreSaid, writes, answered, roomAfter, Gives, tableSaid}
 use Rattle.sheet.specs.Text.{each}
-use Rattle.sheet.specs.Sheet.{boundLine, coreLine, rowLines, linesOf, coreTextOf, coreText}
+use Rattle.sheet.specs.Sheet.{boundLine, rowLines, linesOf, coreTextOf, coreText}
 use Rattle.sheet.specs.Promises.{rowText, partsOn, rowsText, coreBytes, Enough}
 use Rattle.sheet.proofs.Each.{each-same}
 
@@ -66,13 +65,16 @@ no-lines core row = refl
 
 -- the bounds of a row of the core stand in front
 module _ (rows : List Task) (t : Task) (others rest : List ℕ) where
+  -- as many as it has parts
   own-length : length (rowBounds rows t) ≡ length (t .times)
   unfolding rowBounds parts
   own-length = listed-length (bound rows t) (parts t)
 
+  -- they are the first
   own-front : take (length (t .times)) (rowBounds rows t ++ others ++ rest) ≡ rowBounds rows t
   own-front = rw append-assoc (take-at (rowBounds rows t) (others ++ rest) (length (t .times)) own-length)
 
+  -- and those of the others come next
   own-behind : drop (length (t .times)) (rowBounds rows t ++ others ++ rest) ≡ others ++ rest
   own-behind = rw append-assoc (drop-at (rowBounds rows t) (others ++ rest) (length (t .times)) own-length)
 
@@ -83,7 +85,8 @@ unfolding rowsText partsOn onCore keep boundsOf linesOf
 lines-same core rows [] rest = refl
 lines-same core rows (t ∷ ts) rest =
     by-test (eqb (t .core) core)
-    (λ e. rw (e, own-front rows t _ rest, own-behind rows t _ rest, row-same core rows t) (ap (_++_ (rowLines core rows t)) (lines-same core rows ts rest)))
+    (λ e. rw (e, own-front rows t _ rest, own-behind rows t _ rest, row-same core rows t)
+    (ap (_++_ (rowLines core rows t)) (lines-same core rows ts rest)))
     (λ e. rw (e, no-lines core (rowOf t)) (lines-same core rows ts rest))
 
 -- ---- the verdict
@@ -100,7 +103,9 @@ said-is core rows h = rw (le-ltb 3 core h, le-ltb (needed rows) (needed rows) (o
 
 -- without code 11 the bounds are written
 module _ (rows : List Task) (bounds : List ℕ) where
-  bounds-written : (v : CoreVerdict) → eqb (codeOf (named v)) 11 ≡ false → roomAfter (named v) rows bounds ≡ coreBounds rows ++ drop (needed rows) bounds
+  -- by the verdict of the core
+  bounds-written : (v : CoreVerdict) → eqb (codeOf (named v)) 11 ≡ false
+      → roomAfter (named v) rows bounds ≡ coreBounds rows ++ drop (needed rows) bounds
   unfolding named writes roomAfter
   bounds-written passes e = refl
   bounds-written (misses t) e = refl
@@ -123,6 +128,7 @@ module _ (t : Table) (rows : length (t .rows) ≡ 64) (times : length (t .times)
   room-fits : needed (onCore core (tasksOf t)) ≤ 1024
   room-fits = omega (arith, needed-fits core (tasksOf t), times-fit 0 (tasksOf t) (omega arith) (tasks-good t rows times e .fine))
 
+  -- so a table's 1,024 are enough
   pub enough : (bounds : ℕ) → bounds ≡ 1024 → Enough core t bounds
   enough bounds long =
       record {
@@ -131,6 +137,7 @@ module _ (t : Table) (rows : length (t .rows) ≡ 64) (times : length (t .times)
         most = omega arith;
       }
 
+  -- and what is printed from them is the text of the core
   pub text-is : (bounds : List ℕ) → length bounds ≡ 1024 → (a : Analysed) (bounds′ : List ℕ)
       → Gives (tableSaid t core (length bounds)) (onCore core (tasksOf t)) bounds a bounds′
       → coreBytes core (usedRows t) bounds′ (a .verdict) ≡ coreText (tasksOf t) core

@@ -1,14 +1,14 @@
 -- Decimal numbers: the two equations that a reader expects, and that the digits which `io::decimal` gives are those. Assumes nothing.
-use Prim.Native.Nat.{ℕ, zero, suc, _+_, _-_, _*_, _/_, _%_, _^_, _≤_, _<_}
+use Prim.Native.Nat.{ℕ, zero, suc, _-_, _/_, _%_, _^_, _≤_, _<_}
 use native.Mathlib.Nat.{pow-suc, one-le-pow}
 use native.Mathlib.Omega.{arith}
 use borrow.Author.Tests.{lt-ltb, le-ltb}
-use mathlib.Core.Path.{_≡_, refl, sym, ap, _∙_}
+use mathlib.Core.Path.{_≡_, sym}
 use mathlib.Core.Logic.{⊎-elim}
-use mathlib.Core.List.{List, [], _∷_, _++_}
+use mathlib.Core.List.{[], _∷_, _++_}
 use lib.ListN.{length, length-append}
 use Rattle.lists.proofs.Tests.{either}
-use Rattle.io.specs.Digits.{digits, Fewest, glyph}
+use Rattle.io.specs.Digits.{digits, Fewest}
 use Rattle.sheet.specs.Text.{digit, decimalIn, decimal, Decimal}
 
 -- enough fuel is enough
@@ -31,6 +31,7 @@ pub decimal-more : (n : ℕ) → 10 ≤ n → decimal n ≡ decimal (n / 10) ++ 
 unfolding decimal decimalIn
 decimal-more n h = rw (le-ltb n 10 h, more-fuel n (suc (n / 10)) (n / 10) (omega arith) (omega arith))
 
+-- both equations hold
 pub decimals : Decimal
 decimals = record { one = decimal-one; more = decimal-more }
 

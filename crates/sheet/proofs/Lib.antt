@@ -5,3 +5,5 @@ pub mod Lines
 pub mod CoreTexts
 pub mod Short
 pub mod Files
+pub mod OwnLines
+pub mod SetAReport

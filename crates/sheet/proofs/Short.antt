@@ -1,9 +1,8 @@
 -- How long the printed text is at most. Assumes nothing.
-use Prim.Native.Nat.{ℕ, zero, suc, _+_, _-_, _*_, _^_, _≤_, _<_, max}
-use native.Mathlib.Nat.{add-mul, zero-mul, zero-add}
+use Prim.Native.Nat.{ℕ, zero, suc, _+_, _*_, _^_, _≤_, _<_}
+use native.Mathlib.Nat.{add-mul}
 use native.Mathlib.Omega.{arith}
-use mathlib.Core.Path.{_≡_, refl, sym, ap, _∙_}
-use mathlib.Core.Bool.{Bool, true, false}
+use mathlib.Core.Path.{_≡_, refl, _∙_}
 use mathlib.Core.List.{List, [], _∷_, _++_, map, List·Memᴰ·head, List·Memᴰ·tail}
 use lib.ListN.{length, length-append}
 use lib.Dec.{eqb, lit<, lit≤}
@@ -21,11 +20,9 @@ use Rattle.model.specs.Verdict.{Judged}
 use Rattle.model.proofs.Least.{least-says}
 use Rattle.model.proofs.Verdict.{verdict-says}
 use Rattle.table.specs.declared.Verdict.{Verdict}
-use Rattle.table.specs.declared.Verdict.the-variants.{Good, EndsEarly, Malformed, OutOfRange, IdTwice, PriorityTwice}
-use Rattle.table.specs.declared.Verdict.the-variants.{KindsCrossed, TooManyTimes, Trailing, NoSuchCore, NoRoom, NoWindow, Missed}
 use Rattle.table.specs.Verdicts.{codeOf, numberOf}
 use Rattle.table.specs.Memory.{rowOf, allTimes}
-use Rattle.analysis.specs.Analysis.{needed, named, coreSaid}
+use Rattle.analysis.specs.Analysis.{needed, named}
 use Rattle.sheet.specs.Text.{decimal, line, each}
 use Rattle.sheet.specs.Sheet.{boundLine, coreLine, fileLine, header, rowLines, linesOf, coreTextOf, coreText, goodText}
 use Rattle.sheet.specs.Promises.{partsOn}
@@ -41,6 +38,7 @@ unfolding value
 value-most g from (At x) s = s .within
 value-most g from Nothing s = omega arith
 
+-- so is the least solution
 least-most : (g : ℕ → ℕ) (from : ℕ) → value (least g from limit) ≤ limit
 least-most g from = value-most g from (least g from limit) (least-says g from limit)
 
@@ -51,17 +49,20 @@ max-most h zero m e = omega arith
 max-most h (suc n) m e = omega (arith, max-most h n m e, e n)
 
 module _ (rows : List Task) (t : Task) (r : ℕ) where
+  -- a cooperative end
   end-most : (j : ℕ) (x : Found) → value (endFrom rows t r j x) ≤ limit
   unfolding endFrom
   end-most j (At s) = least-most _ _
   end-most j Nothing = unfold value in omega arith
 
+  -- either end
   finish-most : (j : ℕ) → value (finish rows t r j) ≤ limit
   unfolding finish preemptiveEnd
   finish-most j =
       by-test (cooperative t) (λ e. rw (e, finish) (end-most j (start rows t r j)))
       (λ e. rw (e, finish) (least-most _ _))
 
+  -- so the largest response
   bound-most : bound rows t r ≤ 16777215
   unfolding bound response limit
   bound-most = max-most _ (jobs rows t) 16777215 (λ j. omega (arith, finish-most j))
@@ -86,35 +87,19 @@ bound-short core id part bound deadline c i p b d =
     rw (line-more (decimal core), line-more (decimal id), line-more (decimal part), line-more (decimal bound), line-last)
     (omega (arith, decimal-short 0 core c, decimal-short 4 id i, decimal-short 1 part p, decimal-short 7 bound b, decimal-short 7 deadline d))
 
--- two digits of code
-code-short : (v : Verdict) → codeOf v < 100
-code-short Good = lit< tt
-code-short (EndsEarly n) = lit< tt
-code-short (Malformed n) = lit< tt
-code-short (OutOfRange n) = lit< tt
-code-short (IdTwice n) = lit< tt
-code-short (PriorityTwice n) = lit< tt
-code-short (KindsCrossed n) = lit< tt
-code-short (TooManyTimes n) = lit< tt
-code-short (Trailing n) = lit< tt
-code-short (NoSuchCore n) = lit< tt
-code-short (NoRoom n) = lit< tt
-code-short (NoWindow n) = lit< tt
-code-short (Missed n) = lit< tt
-
 -- `core N code C number M`: a core's verdict carries an id
-core-line-short : (core : ℕ) (v : Verdict) → core < 10 → numberOf v < 100000 → length (coreLine core v) ≤ 28
+core-line-short : (core : ℕ) (v : Verdict) → core < 10 → codeOf v < 100 → numberOf v < 100000 → length (coreLine core v) ≤ 28
 unfolding coreLine
-core-line-short core v c n =
+core-line-short core v c k n =
     rw (line-more, line-more (decimal core), line-more, line-more (decimal (codeOf v)), line-more, line-last)
-    (omega (arith, decimal-short 0 core c, decimal-short 1 (codeOf v) (code-short v), decimal-short 4 (numberOf v) n))
+    (omega (arith, decimal-short 0 core c, decimal-short 1 (codeOf v) k, decimal-short 4 (numberOf v) n))
 
 -- `file code C number N`: a reading code carries at most twenty digits
-pub file-line-short : (v : Verdict) → numberOf v < 10 ^ 20 → length (fileLine v) ≤ 41
+pub file-line-short : (v : Verdict) → codeOf v < 100 → numberOf v < 10 ^ 20 → length (fileLine v) ≤ 41
 unfolding fileLine
-file-line-short v n =
+file-line-short v k n =
     rw (line-more, line-more, line-more (decimal (codeOf v)), line-more, line-last)
-    (omega (arith, decimal-short 1 (codeOf v) (code-short v), decimal-short 19 (numberOf v) n))
+    (omega (arith, decimal-short 1 (codeOf v) k, decimal-short 19 (numberOf v) n))
 
 -- ---- cores
 
@@ -140,11 +125,11 @@ lines-short core rows (t ∷ ts) c g =
     rw (length-append (rowLines core rows t) (linesOf core rows ts)) (omega (arith, add-mul (parts t) (total parts ts) 29))
 
 -- the task that a verdict names is one of the rows
-named-small : (rows : List Task) → AllGood rows → (v : CoreVerdict) → Judged rows v → numberOf (named v) < 100000
+named-small : (rows : List Task) → AllGood rows → (v : CoreVerdict) → Judged rows v → (codeOf (named v) < 100) × (numberOf (named v) < 100000)
 unfolding named
-named-small rows g passes j = lit< tt
-named-small rows g (noWindow t) j = omega (arith, g t (j .row) .id .most)
-named-small rows g (misses t) j = omega (arith, g t (j .row) .id .most)
+named-small rows g passes j = (lit< tt, lit< tt)
+named-small rows g (noWindow t) j = (lit< tt, omega (arith, g t (j .row) .id .most))
+named-small rows g (misses t) j = (lit< tt, omega (arith, g t (j .row) .id .most))
 
 -- a core: its lines, where there are any, and its verdict
 core-short : (tasks : List Task) (core : ℕ) → core ≤ 3 → AllGood tasks → length (coreText tasks core) ≤ needed (onCore core tasks) * 29 + 28
@@ -153,7 +138,8 @@ core-short tasks core c g =
     let rows : List Task = keep (λ t. eqb (t .core) core) tasks in
     let mine : AllGood rows = λ u m. g u (kept _ tasks u m .0) in
     let v = named (coreVerdict rows) in
-    let verdict = core-line-short core v (omega arith) (named-small rows mine (coreVerdict rows) (verdict-says rows)) in
+    let small = named-small rows mine (coreVerdict rows) (verdict-says rows) in
+    let verdict = core-line-short core v (omega arith) (small .0) (small .1) in
     let lines = lines-short core rows rows c mine in
     rw (said-is core rows c)
     (by-test (eqb (codeOf v) 11) (λ e. rw e (omega arith))

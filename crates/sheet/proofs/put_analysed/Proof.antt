@@ -1,11 +1,9 @@
 -- `sheet::put_analysed` meets its contract: what analysis gives for the core is what its text prints. Assumes nothing.
 use Prim.Native.Nat.{ℕ, _≤_}
-use native.Mathlib.Omega.{arith}
 use borrow.Author.Needs.{needs}
-use mathlib.Core.Path.{_≡_, refl, sym}
+use mathlib.Core.Path.{_≡_, refl}
 use mathlib.Core.List.{List}
 use lib.ListN.{length}
-use Rattle.model.specs.Bounds.{onCore}
 use Rattle.table.specs.declared.Table.{Table}
 use Rattle.table.specs.Verdicts.{codeOf}
 use Rattle.table.specs.Memory.{usedRows, tasksOf}
@@ -33,12 +31,15 @@ module _ {t : Table} {core : ℕ} (g : Good t core) where
   enough-here = enough t (g .rows) (g .times) (g .fine) core (g .small)
 
   module _ {bounds : List ℕ} {a : Analysed} {bounds′ : List ℕ} (long : length bounds ≡ 1024) (gives : AnalysesTable t core bounds a bounds′) where
+    -- what is printed is the text of the core
     same : coreBytes core (usedRows t) bounds′ (a .verdict) ≡ coreText (tasksOf t) core
     same = text-is t (g .rows) (g .times) (g .fine) core (g .small) bounds long a bounds′ gives
 
+    -- it has room where the text has
     fits : {at : ℕ} {out : List ℕ} → Fits (coreText (tasksOf t) core) at out → Fits (coreBytes core (usedRows t) bounds′ (a .verdict)) at out
     fits h = rw same h
 
+    -- and once it is put, the text is
     put : {at q : ℕ} {out out′ : List ℕ} → PutAt (coreBytes core (usedRows t) bounds′ (a .verdict)) at out q out′
         → PutAt (coreText (tasksOf t) core) at out q out′
     put p = rw same at p

@@ -3,7 +3,7 @@ use Prim.Native.Nat.{ℕ, _+_, _-_, _≤_, _<_}
 use native.Mathlib.Numerals.{add-one}
 use native.Mathlib.Omega.{arith}
 use borrow.Author.Needs.{needs}
-use mathlib.Core.Path.{_≡_, refl}
+use mathlib.Core.Path.{_≡_}
 use mathlib.Core.List.{List, [], _∷_, _++_}
 use lib.ListN.{length, getD, drop, set, length-drop, drop-of-length-le}
 use lib.Seq.{drop-cons}
@@ -22,12 +22,15 @@ module _ {bytes out₀ : List ℕ} {at : ℕ} {out : List ℕ} {p i : ℕ} (k : 
     next : drop i bytes ≡ (getD bytes i 0 ∷ []) ++ drop (i + 1) bytes
     next = rw (drop-cons bytes i 0 h, add-one)
 
+    -- there is room for it
     here : p < length out
     here = omega (arith, k .putting .fits .room, length-drop i bytes)
 
+    -- one byte more
     step : Copying bytes out₀ at (set out p (getD bytes i 0)) (p + 1) (i + 1)
     step = record { upto = omega arith; putting = turn (k .putting) _ _ next (byte-put out p (getD bytes i 0)) }
 
+  -- all bytes
   done : length bytes ≤ i → PutAt bytes at out₀ p out
   done h = ends (k .putting) (drop-of-length-le bytes h)
 

@@ -15,16 +15,20 @@ use Rattle.sheet.proofs.put_core.Statement.{statement}
 use Rattle.sheet.proofs.put_core.Tie as tie
 
 module _ (core : ℕ) (rows : List Row) (bounds : List ℕ) (v : Verdict) {code : ℕ} (own : code ≡ codeOf v) where
+  -- with code 11 only the verdict
   only : code ≡ 11 → coreBytes core rows bounds v ≡ coreLine core v
   unfolding coreBytes
   only e = rw (eq-eqb (codeOf v) 11 (sym own ∙ e))
 
+  -- it has room
   only-fits : {at : ℕ} {out : List ℕ} → code ≡ 11 → Fits (coreBytes core rows bounds v) at out → Fits (coreLine core v) at out
   only-fits e h = rw (only e) at h
 
+  -- and is the whole
   only-put : {at q : ℕ} {out out′ : List ℕ} → code ≡ 11 → PutAt (coreLine core v) at out q out′ → PutAt (coreBytes core rows bounds v) at out q out′
   only-put e put = rw (only e) put
 
+  -- else the lines and the verdict
   both : (code ≡ 11 → ⊥) → coreBytes core rows bounds v ≡ rowsText core rows bounds ++ coreLine core v
   unfolding coreBytes
   both h = rw (ne-eqb (codeOf v) 11 (λ e. h (own ∙ e)))

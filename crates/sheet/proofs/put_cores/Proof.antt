@@ -4,7 +4,6 @@ use native.Mathlib.Omega.{arith}
 use borrow.Author.Needs.{needs}
 use mathlib.Core.Path.{_≡_, refl}
 use mathlib.Core.List.{List}
-use lib.ListN.{length}
 use Rattle.table.specs.declared.Table.{Table}
 use Rattle.table.specs.Verdicts.{codeOf}
 use Rattle.table.specs.Memory.{tasksOf}
@@ -33,21 +32,26 @@ module _ (t : Table) (out : List ℕ) (h : Fits (goodText (tasksOf t)) 0 out) wh
   header-fits = room (starts _ out 0 h) header (cores t 0) refl
 
   module _ {p : ℕ} {out′ : List ℕ} (put : PutAt header 0 out p out′) where
+    -- behind it the cores are left
     behind : Putting (goodText (tasksOf t)) out 0 out′ p (cores t 0)
     unfolding goodText
     behind = turn (starts _ out 0 h) header (cores t 0) refl put
 
+    -- from there the loop goes
     begins : codeOf (faultOf t) ≡ 0 → Cores t out′ p out′ p 0
     begins e = record { fine = e; putting = starts (cores t 0) out′ p (behind .fits) }
 
+    -- and where it ends the whole is put
     ending : {q : ℕ} {out″ : List ℕ} → PutAt (cores t 0) p out′ q out″ → PutAt (goodText (tasksOf t)) 0 out q out″
     ending put′ = last behind put′
 
 module _ {t : Table} {out₀ : List ℕ} {p₀ : ℕ} {out : List ℕ} {p core : ℕ} (k : Cores t out₀ p₀ out p core) where
   module _ (h : core < 4) where
+    -- the next core has room
     fits : Fits (coreText (tasksOf t) core) p out
     fits = room (k .putting) (coreText (tasksOf t) core) _ (each-more (coreText (tasksOf t)) core 4 h)
 
+    -- one core more
     step : {q : ℕ} {out′ : List ℕ} → PutAt (coreText (tasksOf t) core) p out q out′ → Cores t out₀ p₀ out′ q (core + 1)
     step put =
         record {
@@ -55,6 +59,7 @@ module _ {t : Table} {out₀ : List ℕ} {p₀ : ℕ} {out : List ℕ} {p core :
           putting = turn (k .putting) (coreText (tasksOf t) core) _ (each-more (coreText (tasksOf t)) core 4 h) put;
         }
 
+  -- all cores
   done : 4 ≤ core → PutAt (cores t 0) p₀ out₀ p out
   done h = ends (k .putting) (each-none (coreText (tasksOf t)) core 4 h)
 

@@ -2,7 +2,7 @@
 use Prim.Native.Nat.{ℕ, suc, _+_, _-_, _≤_, _<_}
 use native.Mathlib.Omega.{arith}
 use borrow.Author.Needs.{needs}
-use mathlib.Core.Path.{_≡_, refl}
+use mathlib.Core.Path.{_≡_}
 use mathlib.Core.List.{List, [], _∷_, _++_, map}
 use lib.ListN.{length, getD, drop}
 use Rattle.files.specs.Promises.{PutAt}
@@ -23,6 +23,7 @@ module _ {ns out₀ : List ℕ} {at : ℕ} {out : List ℕ} {p i : ℕ} (n : Num
     fits : Fits (decimal (getD ns i 0) ++ (space ∷ [])) p out
     fits = room (n .putting) (decimal (getD ns i 0) ++ (space ∷ [])) (line (map decimal (drop (i + 1) ns))) (numbers-more ns i (omega arith))
 
+    -- one number more
     step : {q : ℕ} {out′ : List ℕ} → PutAt (decimal (getD ns i 0) ++ (space ∷ [])) p out q out′ → Numbers ns out₀ at out′ q (i + 1)
     step put = record { upto = omega arith; putting = turn (n .putting) _ _ (numbers-more ns i (omega arith)) put }
 
@@ -31,9 +32,11 @@ module _ {ns out₀ : List ℕ} {at : ℕ} {out : List ℕ} {p i : ℕ} (n : Num
     ending : line (map decimal (drop i ns)) ≡ decimal (getD ns (length ns - 1) 0) ++ (lineFeed ∷ [])
     ending = let e : length ns - 1 ≡ i = omega (arith, n .upto) in rw e (numbers-last ns i (omega (arith, n .upto)))
 
+    -- it has room
     fits-last : Fits (decimal (getD ns (length ns - 1) 0) ++ (lineFeed ∷ [])) p out
     fits-last = rw ending at (n .putting .fits)
 
+    -- and with it the line is put
     done : {q : ℕ} {out′ : List ℕ} → PutAt (decimal (getD ns (length ns - 1) 0) ++ (lineFeed ∷ [])) p out q out′
         → PutAt (line (map decimal ns)) at out₀ q out′
     done put = last (n .putting) (rw ending put)

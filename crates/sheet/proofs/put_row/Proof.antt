@@ -32,9 +32,11 @@ begins core row bounds out at few h = record { few = few; upto = omega arith; pu
 
 module _ {core : ℕ} {row : Row} {bounds out₀ : List ℕ} {at : ℕ} {out : List ℕ} {p r : ℕ} (l : Lines core row bounds out₀ at out p r) where
   module _ (h : r < length bounds) where
+    -- the next line has room
     fits : Fits (bound-at core row bounds r) p out
     fits = room (l .putting) (bound-at core row bounds r) _ (each-more (bound-at core row bounds) r (length bounds) h)
 
+    -- one line more
     step : {q : ℕ} {out′ : List ℕ} → PutAt (bound-at core row bounds r) p out q out′ → Lines core row bounds out₀ at out′ q (r + 1)
     step put =
         record {
@@ -43,6 +45,7 @@ module _ {core : ℕ} {row : Row} {bounds out₀ : List ℕ} {at : ℕ} {out : L
           putting = turn (l .putting) (bound-at core row bounds r) _ (each-more (bound-at core row bounds) r (length bounds) h) put;
         }
 
+  -- all lines
   done : length bounds ≤ r → PutAt (rowText core row bounds) at out₀ p out
   done h = ends (l .putting) (each-none (bound-at core row bounds) r (length bounds) h)
 

@@ -2,8 +2,8 @@
 use Prim.Native.Nat.{ℕ, _+_, _-_, _≤_, _<_}
 use native.Mathlib.Omega.{arith}
 use borrow.Author.Needs.{needs}
-use mathlib.Core.Path.{_≡_, refl, sym, ap, _∙_}
-use mathlib.Core.List.{List, [], _∷_, _++_}
+use mathlib.Core.Path.{_≡_, ap}
+use mathlib.Core.List.{List, _∷_, _++_}
 use lib.ListN.{length, getD, take, drop, drop-of-length-le}
 use lib.Seq.{drop-drop, length-take-le}
 use Rattle.lists.specs.Lists.{total}
@@ -39,6 +39,7 @@ begins core t bounds out at long e h =
 
 module _ {core : ℕ} {t : Table} {bounds out₀ : List ℕ} {at : ℕ} {out : List ℕ} {p used i : ℕ} (k : Rows core t bounds out₀ at out p used i) where
   module _ (h : i < t .count) (n : ℕ) (e : n ≡ partsOn core (getD (t .rows) i zeroRow)) where
+    -- the next row
     row : Row
     row = getD (t .rows) i zeroRow
 
@@ -46,14 +47,17 @@ module _ {core : ℕ} {t : Table} {bounds out₀ : List ℕ} {at : ℕ} {out : L
     own : List ℕ
     own = take (used + n - used) (drop used bounds)
 
+    -- it, and the others behind it
     next : drop i (usedRows t) ≡ row ∷ drop (i + 1) (usedRows t)
     unfolding row
     next = used-more (t .count) (t .rows) i h (k .rows-long)
 
+    -- there are bounds for it and for the others
     left-next : used + n + total (partsOn core) (drop (i + 1) (usedRows t)) ≤ length bounds
     unfolding total row
     left-next = omega (arith, k .left, e, ap (total (partsOn core)) next)
 
+    -- no more than a table has times
     own-few : length own ≤ 1024
     unfolding own
     own-few = omega (arith, part-length used n bounds (omega (arith, left-next)), left-next, k .most)
@@ -64,9 +68,11 @@ module _ {core : ℕ} {t : Table} {bounds out₀ : List ℕ} {at : ℕ} {out : L
     unfolding rowsText own row
     cut = rw (next, ← e, drop-drop, part-is used n bounds)
 
+    -- its lines have room
     fits : Fits (rowText core row own) p out
     fits = room (k .putting) (rowText core row own) _ cut
 
+    -- one row more
     step : {q : ℕ} {out′ : List ℕ} → PutAt (rowText core row own) p out q out′ → Rows core t bounds out₀ at out′ q (used + n) (i + 1)
     step put =
         record {
@@ -77,6 +83,7 @@ module _ {core : ℕ} {t : Table} {bounds out₀ : List ℕ} {at : ℕ} {out : L
           putting = turn (k .putting) (rowText core row own) _ cut put;
         }
 
+  -- all rows
   done : t .count ≤ i → PutAt (rowsText core (usedRows t) bounds) at out₀ p out
   unfolding rowsText
   done h =

@@ -1,10 +1,10 @@
 -- `sheet::put_sheet` meets its contract: a refused file prints its line, a good one its cores. Assumes nothing.
-use Prim.Native.Nat.{ℕ, _+_, _≤_, _<_, _^_}
+use Prim.Native.Nat.{ℕ, _≤_, _<_, _^_}
 use native.Mathlib.Omega.{arith}
 use borrow.Author.Needs.{needs}
-use mathlib.Core.Path.{_≡_, refl, sym, ap, _∙_}
+use mathlib.Core.Path.{_≡_, sym, _∙_}
 use mathlib.Core.List.{List}
-use lib.ListN.{length, getD}
+use lib.ListN.{length}
 use Rattle.numbers.specs.Numbers.{Bytes}
 use Rattle.table.specs.Verdicts.{codeOf}
 use Rattle.table.specs.Memory.{tasksOf}
@@ -31,22 +31,28 @@ module _ {s : List ℕ} {l : Loaded} (r : Read s l) where
 
   module _ {k : ℕ} (code : k ≡ codeOf (l .verdict)) where
     module _ (bad : k ≡ 0 → ⊥) where
+      -- a refused file: its line has room
       line-fits : {out : List ℕ} → 29842 ≤ length out → Fits (fileLine (l .verdict)) 0 out
       line-fits {out} h = rw (refused-text s l (r .same) (λ z. bad (code ∙ z))) at (fits {out = out} h)
 
+      -- and is the text
       line-put : {q : ℕ} {out out′ : List ℕ} → PutAt (fileLine (l .verdict)) 0 out q out′ → PutAt (sheetText s) 0 out q out′
       line-put put = rw (refused-text s l (r .same) (λ z. bad (code ∙ z))) put
 
     module _ (zero : k ≡ 0) where
+      -- a good file: its table has no fault
       fine : codeOf (faultOf (l .table)) ≡ 0
       fine = good-text s (r .bytes) l (r .same) (sym code ∙ zero) .fine
 
+      -- its cores have room
       cores-fit : {out : List ℕ} → 29842 ≤ length out → Fits (goodText (tasksOf (l .table))) 0 out
       cores-fit {out} h = rw (good-text s (r .bytes) l (r .same) (sym code ∙ zero) .text) at (fits {out = out} h)
 
+      -- and are the text
       cores-put : {q : ℕ} {out out′ : List ℕ} → PutAt (goodText (tasksOf (l .table))) 0 out q out′ → PutAt (sheetText s) 0 out q out′
       cores-put put = rw (good-text s (r .bytes) l (r .same) (sym code ∙ zero) .text) put
 
+-- what is known once the file is read
 read-of : (c : tie.After-read) → Read (c .before .before .before .args .bytes .now) (c .read .result)
 read-of c = record { bytes = λ i. omega (arith, c .before .shared-slice-known .given i); few = search needs; same = c .read .ensures }
 

@@ -4,9 +4,9 @@ use native.Mathlib.Nat.{zero-add}
 use native.Mathlib.Omega.{arith}
 use borrow.Author.Needs.{needs}
 use borrow.Author.Tests.{lt-ltb, le-ltb}
-use mathlib.Core.Path.{_≡_, refl, sym, ap, _∙_}
-use mathlib.Core.List.{List, _++_}
-use lib.ListN.{length, take, drop}
+use mathlib.Core.Path.{_≡_, sym, ap, _∙_}
+use mathlib.Core.List.{List}
+use lib.ListN.{length, take}
 use lib.Seq.{sets, sets-eq, length-sets, length-take-le}
 use Rattle.lists.proofs.Stores.{take-sets}
 use Rattle.numbers.specs.Numbers.{Bytes}
@@ -24,6 +24,7 @@ record Worked (s : List ℕ) (n : ℕ) (room : List ℕ) : Type 0 where
   size : length (sheetText s) ≡ n
   front : take n room ≡ sheetText s
 
+-- the room is enough for any text
 worked : {s : List ℕ} → Bytes s → length s < 2 ^ 64 → {n : ℕ} {room₀ room : List ℕ} → 29842 ≤ length room₀ → PutAt (sheetText s) 0 room₀ n room
     → Worked s n room
 worked {s} bs few {n} {room₀} {room} long put =
@@ -36,13 +37,16 @@ worked {s} bs few {n} {room₀} {room} long put =
     }
 
 module _ {s : List ℕ} {n : ℕ} {room : List ℕ} (w : Worked s n room) {out : List ℕ} where
+  -- the text does not fit
   short : length out < n → Prints s out (record { verdict = NoRoom n; count = 0 }) out
   unfolding printAnswer printed
   short h = record { answer = rw (w .size, lt-ltb (length out) n h); bytes = rw (w .size, lt-ltb (length out) n h) }
 
+  -- where it fits, what is copied has room
   fits : n ≤ length out → Fits (take n room) 0 out
   fits h = record { room = rw (w .front) (omega (arith, w .size)) }
 
+  -- and is what must be printed
   done : n ≤ length out → {q : ℕ} {out′ : List ℕ} → PutAt (take n room) 0 out q out′ → Prints s out (record { verdict = Good; count = n }) out′
   unfolding printAnswer printed
   done h {q} {out′} put =
@@ -53,6 +57,7 @@ module _ {s : List ℕ} {n : ℕ} {room : List ℕ} (w : Worked s n room) {out :
         bytes = text ∙ sets-eq (sheetText s) out 0 fit ∙ rw (zero-add, w .size, le-ltb (length out) n h);
       }
 
+-- as the code has it
 worked-here : (c : tie.After-put-sheet) → Worked (c .before .before .before .before .args .bytes .now) (c .put-sheet .result) (c .put-sheet .last .0)
 worked-here c =
     worked (λ i. omega (arith, c .before .before .before .shared-slice-known .given i)) (search needs) (search needs) (c .put-sheet .ensures)
