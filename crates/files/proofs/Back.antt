@@ -7,21 +7,19 @@ use mathlib.Core.List.{List, [], _∷_, _++_, map, append-assoc, append-nil}
 use lib.ListN.{length, drop, replicate, length-append, length-replicate, drop-of-length-le}
 use lib.Dec.{ltb}
 use Rattle.lists.proofs.Tests.{by-test}
-use Rattle.numbers.specs.Numbers.{Bytes, numberAt, encode, encodeAll}
+use Rattle.numbers.specs.Numbers.{Bytes, encodeAll}
 use Rattle.model.specs.Task.{Task}
-use Rattle.table.specs.declared.Verdict.{Verdict}
 use Rattle.table.specs.declared.Verdict.the-variants.{Trailing}
 use Rattle.table.specs.Verdicts.{codeOf, good}
-use Rattle.table.specs.Fields.{Wanted, field, head, time, rowFrom, fieldsOf, judge}
+use Rattle.table.specs.Fields.{field, head, time, rowFrom, fieldsOf}
 use Rattle.table.specs.Memory.{rowOf, taskOf, allTimes}
 use Rattle.table.specs.Clash.{clashOf}
-use Rattle.table.proofs.Fine.{Fine, AllFine, good-fine}
 use Rattle.table.proofs.Seven.{all-length, seven}
 use Rattle.table.proofs.Stored.{all-times-snoc}
 use Rattle.table.proofs.GoodTasks.{FineTask, FineTasks, GoodTasks}
-use Rattle.files.specs.Reading.{Step, stop, go, _then_, unless, asked, fieldAt, fieldsAt, rowAt, rowsAt, endAt, decode}
+use Rattle.files.specs.Reading.{stop, go, _then_, fieldAt, fieldsAt, rowAt, rowsAt, endAt, decode}
 use Rattle.files.specs.Writing.{encodeFile}
-use Rattle.files.proofs.Taken.{Between, joined, stopped-not, passed, Then, then-read, Read, field-read, TakenAll, taken-all}
+use Rattle.files.proofs.Taken.{Between, joined, stopped-not, passed, then-read, Read, field-read, TakenAll, taken-all}
 use Rattle.files.proofs.RowBytes.{rowBytes, rowsBytes, rows-none, rows-more, file-parts}
 
 module _ (s : List ℕ) where

@@ -19,7 +19,6 @@ use Rattle.numbers.proofs.Sizes.{longer}
 use Rattle.model.specs.Task.{Task}
 use Rattle.table.specs.Fields.{Wanted, field, head, time, rowFrom}
 use Rattle.table.specs.Memory.{taskOf, allTimes}
-use Rattle.table.proofs.Heads.{GoodHead}
 use Rattle.table.proofs.Seven.{all-length}
 use Rattle.table.proofs.Stored.{all-times-snoc}
 use Rattle.files.specs.Reading.{Step, stop, go, _then_, asked, fieldAt, fieldsAt, rowAt, rowsAt, endAt, decode, loaded, readAnswer}

@@ -5,21 +5,18 @@ use native.Mathlib.Omega.{arith}
 use mathlib.Core.Path.{_≡_, refl, sym, ap, _∙_}
 use mathlib.Core.List.{List, [], _∷_, _++_}
 use lib.ListN.{length, replicate, drop, drop-of-length-le}
-use Rattle.numbers.specs.Numbers.{numberAt}
-use Rattle.numbers.specs.declared.Number.{Number}
 use Rattle.numbers.specs.declared.Number.the-variants as N
 use Rattle.model.specs.Task.{Task}
 use Rattle.table.specs.declared.Verdict.{Verdict}
-use Rattle.table.specs.Verdicts.{codeOf, good}
-use Rattle.table.specs.Fields.{Wanted, head, time, rowFrom, judge}
+use Rattle.table.specs.Verdicts.{codeOf}
+use Rattle.table.specs.Fields.{Wanted, head, time, rowFrom}
 use Rattle.table.specs.Memory.{taskOf, allTimes}
 use Rattle.table.proofs.Codes.{is-good, is-fault}
 use Rattle.files.specs.declared.Field.the-variants as F
 use Rattle.files.specs.declared.Head.the-variants as H
-use Rattle.files.specs.declared.Next.{Next}
 use Rattle.files.specs.declared.Next.the-variants as X
 use Rattle.table.specs.declared.Row.{Row}
-use Rattle.files.specs.Reading.{Step, stop, go, _then_, unless, asked, fieldAt, fieldsAt, rowAt, rowsAt}
+use Rattle.files.specs.Reading.{Step, stop, go, _then_, unless, fieldAt, fieldsAt, rowAt, rowsAt}
 use Rattle.files.specs.Promises.{asField, asHead, Filled}
 
 -- where the verdict's code k was asked for: stop, or go on

@@ -4,7 +4,6 @@ use mathlib.Core.Path.{_≡_}
 use mathlib.Core.List.{List, []}
 use lib.ListN.{length}
 use lib.Seq.{sets}
-use Rattle.table.specs.declared.Row.{Row}
 use Rattle.table.specs.Fields.{rowFrom}
 use Rattle.table.specs.Memory.{stored}
 use Rattle.model.specs.Task.{Task}

@@ -1,6 +1,5 @@
 -- Document 01, "The file" and "Codes and what they leave": reading goes number by number, and the first fault met is given.
 use Prim.Native.Nat.{ℕ, zero, suc}
-use mathlib.Core.Bool.{Bool, true, false}
 use mathlib.Core.List.{List, [], _∷_, _++_, map}
 use lib.ListN.{length, replicate}
 use lib.Dec.{ltb}

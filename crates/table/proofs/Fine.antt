@@ -1,15 +1,14 @@
 -- Numbers without a fault are those that are what they may be. Assumes nothing.
-use Prim.Native.Nat.{ℕ, _≤_, _<_}
+use Prim.Native.Nat.{ℕ, _≤_}
 use native.Mathlib.Omega.{arith}
 use borrow.Author.Tests.{lt-ltb, le-ltb}
-use mathlib.Core.Path.{_≡_, refl, sym, ap, _∙_}
+use mathlib.Core.Path.{_≡_, refl, ap, _∙_}
 use mathlib.Core.Logic.{⊎-elim}
 use mathlib.Core.List.{List, [], _∷_}
 use lib.ListN.{length}
 use Rattle.lists.proofs.Tests.{either}
-use Rattle.table.specs.declared.Verdict.{Verdict}
-use Rattle.table.specs.declared.Verdict.the-variants.{Good, OutOfRange, TooManyTimes}
-use Rattle.table.specs.Verdicts.{codeOf, _orElse_}
+use Rattle.table.specs.declared.Verdict.the-variants.{Good}
+use Rattle.table.specs.Verdicts.{codeOf}
 use Rattle.table.specs.Fields.{Wanted, judge, faultIn}
 use Rattle.table.proofs.Codes.{or-good, first-good, then-good}
 

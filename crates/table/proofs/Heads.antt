@@ -5,7 +5,7 @@ use mathlib.Core.Path.{_≡_, refl}
 use Rattle.model.specs.Rows.{Within}
 use Rattle.table.specs.declared.Row.{Row}
 use Rattle.table.specs.Verdicts.{codeOf}
-use Rattle.table.specs.Fields.{Wanted, field, head, fieldsOf, faultIn}
+use Rattle.table.specs.Fields.{field, head, fieldsOf, faultIn}
 use Rattle.table.proofs.Fine.{Fine, AllFine, good-all}
 
 pub record GoodHead (used : ℕ) (r : Row) : Type 0 where

@@ -6,7 +6,6 @@ use mathlib.Core.Path.{_≡_, refl, ap, _∙_}
 use mathlib.Core.List.{List, [], _∷_}
 use lib.ListN.{length, getD, take, drop, replicate, drop-of-length-le, length-replicate}
 use lib.Seq.{drop-cons, length-take-le}
-use Rattle.table.specs.declared.Verdict.{Verdict}
 use Rattle.table.specs.declared.Verdict.the-variants.{Good}
 use Rattle.table.specs.Verdicts.{_orElse_}
 use Rattle.table.specs.Fields.{Wanted, want, wanted, Ranges, judge, faultIn}

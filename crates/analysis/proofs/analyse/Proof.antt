@@ -1,6 +1,5 @@
 -- `analysis::analyse` meets its contract: the reading codes, then what the table says.
 use mathlib.Core.Path.{sym, _∙_}
-use native.Mathlib.Omega.{arith}
 use borrow.Author.Needs.{needs}
 use Rattle.analysis.proofs.Tabled.{unread, as-table}
 use Rattle.analysis.proofs.analyse.Statement.{statement}

@@ -1,19 +1,18 @@
 -- `files::file_numbers` meets its contract. The invariant: the numbers so far and those of the other rows are the whole. Assumes nothing.
-use Prim.Native.Nat.{ℕ, suc, _+_, _-_, _*_, _≤_, _<_}
+use Prim.Native.Nat.{ℕ, _+_, _-_, _*_, _≤_, _<_}
 use native.Mathlib.Omega.{arith}
 use borrow.Author.Needs.{needs}
 use mathlib.Core.Path.{_≡_, refl, sym, ap, _∙_}
-use mathlib.Core.List.{List, [], _∷_, _++_, append-assoc, append-nil}
+use mathlib.Core.List.{List, _∷_, _++_, append-assoc, append-nil}
 use lib.ListN.{length, getD, take, drop, set, length-set, length-append, drop-of-length-le}
-use lib.Seq.{sets, length-sets, drop-drop, take-suc-set, length-take-le}
+use lib.Seq.{length-sets, drop-drop, take-suc-set, length-take-le}
 use Rattle.lists.proofs.Parts.{part-is, part-length}
 use Rattle.lists.proofs.Stores.{take-sets}
-use Rattle.model.specs.Task.{Task}
 use Rattle.table.specs.declared.Row.{Row}
 use Rattle.table.specs.declared.Table.{Table}
 use Rattle.table.specs.Verdicts.{codeOf, _orElse_}
 use Rattle.table.specs.Fields.{fieldsOf}
-use Rattle.table.specs.Memory.{rowOf, taskOf, zeroRow, usedRows, tasksFrom, tasksOf}
+use Rattle.table.specs.Memory.{zeroRow, usedRows, tasksFrom, tasksOf}
 use Rattle.table.specs.Faults.{rowFault, rowsFault, faultOf}
 use Rattle.table.proofs.Codes.{first-good, then-good}
 use Rattle.table.proofs.GoodTasks.{count-few, no-fault, count-same}

@@ -1,13 +1,11 @@
 -- `files::read_end` meets its contract: each return is one case of `endAt`. Assumes nothing.
 use Prim.Native.Nat.{ℕ, _≤_, _<_}
-use denote.Ref.{now}
 use borrow.Author.Needs.{needs}
 use borrow.Author.Tests.{lt-ltb, le-ltb}
-use mathlib.Core.Path.{_≡_, refl, sym, ap, _∙_}
+use mathlib.Core.Path.{_≡_, ap, _∙_}
 use mathlib.Core.List.{List, map}
 use lib.ListN.{length}
 use Rattle.model.specs.Task.{Task}
-use Rattle.table.specs.declared.Row.{Row}
 use Rattle.table.specs.declared.Table.{Table}
 use Rattle.table.specs.declared.Verdict.{Verdict}
 use Rattle.table.specs.declared.Verdict.the-variants.{Good, Trailing}
@@ -15,8 +13,7 @@ use Rattle.table.specs.Verdicts.{codeOf}
 use Rattle.table.specs.Memory.{rowOf, usedRows, stored}
 use Rattle.table.specs.Clash.{clashOf}
 use Rattle.table.proofs.Stored.{stored-rows}
-use Rattle.files.specs.declared.Loaded.{Loaded}
-use Rattle.files.specs.Reading.{Step, stop, go, endAt, loaded}
+use Rattle.files.specs.Reading.{stop, endAt, loaded}
 use Rattle.files.proofs.Steps.{unless-fault, unless-good}
 use Rattle.files.proofs.read_end.Statement.{statement}
 use Rattle.files.proofs.read_end.Tie as tie

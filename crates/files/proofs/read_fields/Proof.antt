@@ -1,18 +1,18 @@
 -- `files::read_fields` meets its contract. The invariant: what was stored is done, and the rest is still to be read. Assumes nothing.
-use Prim.Native.Nat.{ℕ, suc, _+_, _-_, _≤_, _<_}
+use Prim.Native.Nat.{ℕ, _+_, _-_, _≤_, _<_}
 use native.Mathlib.Numerals.{add-one}
 use native.Mathlib.Omega.{arith}
 use borrow.Author.Needs.{needs}
-use mathlib.Core.Path.{_≡_, refl, sym, ap, _∙_}
-use mathlib.Core.List.{List, [], _∷_, _++_}
+use mathlib.Core.Path.{_≡_, refl, sym, _∙_}
+use mathlib.Core.List.{List, [], _∷_}
 use lib.ListN.{length, getD, take, drop, set, length-set}
 use lib.Seq.{take-suc-set, take-all}
 use Rattle.table.specs.declared.Verdict.{Verdict}
 use Rattle.table.specs.Fields.{Wanted, want, wanted, Ranges}
 use Rattle.table.proofs.Ranges.{wanted-more, wanted-count}
 use Rattle.files.specs.declared.Next.the-variants.{At, Refused}
-use Rattle.files.specs.Reading.{Step, stop, go, fieldAt, fieldsAt}
-use Rattle.files.specs.Promises.{asField, Filled}
+use Rattle.files.specs.Reading.{stop, go, fieldAt, fieldsAt}
+use Rattle.files.specs.Promises.{Filled}
 use Rattle.files.proofs.Steps.{got, refused, fields-more, fields-stop, fields-none}
 use Rattle.files.proofs.read_fields.Statement.{statement}
 use Rattle.files.proofs.read_fields.Tie as tie

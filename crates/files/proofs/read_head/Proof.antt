@@ -1,17 +1,15 @@
 -- `files::read_head` meets its contract: the constants are the ranges of `head`. Assumes nothing.
 use Prim.Native.Nat.{ℕ}
-use denote.Ref.{now}
 use borrow.Author.Needs.{needs}
-use mathlib.Core.Path.{_≡_, refl, sym, ap, _∙_}
+use mathlib.Core.Path.{_≡_, sym, ap, _∙_}
 use mathlib.Core.List.{List, [], _∷_}
 use Rattle.table.specs.declared.Row.{Row}
 use Rattle.table.specs.declared.Verdict.{Verdict}
 use Rattle.table.specs.Fields.{head, wanted, leftAfter, rowFrom}
-use Rattle.files.specs.declared.Head.{Head}
 use Rattle.files.specs.declared.Head.the-variants as H
 use Rattle.files.specs.declared.Next.{Next}
 use Rattle.files.specs.declared.Next.the-variants.{At, Refused}
-use Rattle.files.specs.Reading.{Step, stop, go, fieldsAt}
+use Rattle.files.specs.Reading.{fieldsAt}
 use Rattle.files.specs.Promises.{asHead, Filled}
 use Rattle.files.proofs.Steps.{filled-at, filled-refused}
 use Rattle.files.proofs.read_head.Statement.{statement}

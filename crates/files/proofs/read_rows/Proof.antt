@@ -13,7 +13,7 @@ use Rattle.lists.proofs.Parts.{part-length}
 use Rattle.model.specs.Task.{Task}
 use Rattle.table.specs.declared.Row.{Row}
 use Rattle.table.specs.declared.Verdict.{Verdict}
-use Rattle.table.specs.Fields.{head, time, rowFrom}
+use Rattle.table.specs.Fields.{head, time}
 use Rattle.table.specs.Memory.{rowOf, taskOf, allTimes, zeroRow}
 use Rattle.table.proofs.Heads.{GoodHead}
 use Rattle.table.proofs.Seven.{all-length}

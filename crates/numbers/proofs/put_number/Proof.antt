@@ -1,12 +1,12 @@
 -- `numbers::put_number` meets its contract. The invariant: what is still to be written, put where it goes, is the whole. Assumes nothing.
-use Prim.Native.Nat.{ℕ, suc, _+_, _/_, _%_, _*_, _^_, _≤_, _<_}
+use Prim.Native.Nat.{ℕ, _+_, _/_, _%_, _^_, _≤_, _<_}
 use native.Mathlib.Numerals.{add-one}
 use native.Mathlib.Omega.{arith}
 use borrow.Author.Needs.{needs}
 use mathlib.Core.Path.{_≡_, refl, sym, ap, _∙_}
 use mathlib.Core.List.{List}
 use lib.ListN.{length, set, length-set}
-use lib.Seq.{sets, length-sets}
+use lib.Seq.{sets}
 use Rattle.numbers.specs.Numbers.{encode, Put}
 use Rattle.numbers.proofs.Laws.{encode-one, encode-more}
 use Rattle.numbers.proofs.put_number.Statement.{statement}

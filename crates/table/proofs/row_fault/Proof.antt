@@ -1,9 +1,9 @@
 -- `table::row_fault` meets its contract: good fields leave room for the times. Assumes nothing.
-use Prim.Native.Nat.{ℕ, _+_, _-_, _≤_}
+use Prim.Native.Nat.{_+_, _-_, _≤_}
 use native.Mathlib.Omega.{arith}
 use denote.Ref.{now}
 use borrow.Author.Needs.{needs}
-use mathlib.Core.Path.{_≡_, sym, ap, _∙_}
+use mathlib.Core.Path.{sym, ap, _∙_}
 use lib.ListN.{length}
 use Rattle.lists.proofs.Parts.{part-is, part-length}
 use Rattle.table.specs.Verdicts.{codeOf}

@@ -1,10 +1,9 @@
 -- `table::rows_fault` meets its contract. The invariant: no row before row i has a fault. Assumes nothing.
-use Prim.Native.Nat.{ℕ, suc, _+_, _-_, _≤_, _<_}
+use Prim.Native.Nat.{ℕ, _+_, _-_, _≤_, _<_}
 use native.Mathlib.Omega.{arith}
 use borrow.Author.Needs.{needs}
 use mathlib.Core.Path.{_≡_, refl, sym, ap, _∙_}
-use mathlib.Core.List.{List}
-use lib.ListN.{length, getD, drop, drop-of-length-le, length-take}
+use lib.ListN.{length, getD, drop, drop-of-length-le}
 use lib.Seq.{length-take-le}
 use Rattle.table.specs.declared.Row.{Row}
 use Rattle.table.specs.declared.Table.{Table}

@@ -1,5 +1,4 @@
 -- `table::times_fault` meets its contract: each time has the same range. Assumes nothing.
-use Prim.Native.Nat.{ℕ}
 use denote.Ref.{now}
 use borrow.Author.Needs.{needs}
 use mathlib.Core.Path.{sym, ap, _∙_}
