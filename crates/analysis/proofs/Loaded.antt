@@ -4,13 +4,13 @@ use native.Mathlib.Omega.{arith}
 use mathlib.Core.Path.{_≡_, refl, sym, ap, _∙_}
 use mathlib.Core.List.{List, [], _∷_, _++_, map}
 use lib.ListN.{length, take, replicate}
-use Rattle.lists.specs.Lists.{largest}
+use Rattle.lists.specs.Lists.{largest, InFront}
 use Rattle.lists.proofs.MapFronts.{front-fits, front-is}
 use Rattle.lists.proofs.PadStores.{pad-length}
 use Rattle.model.specs.Task.{Task, cost, parts}
 use Rattle.table.specs.declared.Table.{Table}
 use Rattle.table.specs.Memory.{allTimes}
-use Rattle.columns.specs.Columns.{Lies, Column, fieldOf}
+use Rattle.columns.specs.Columns.{Lies, fieldOf}
 use Rattle.passes.specs.Held.{chained}
 use Rattle.passes.proofs.Chains.{chained-length}
 use Rattle.passes.proofs.PartsHeld.{times-long}
@@ -41,7 +41,7 @@ module _ {rows : List Task} {t : Table} (l : Lies rows t) where
   unfolding needed
   needed-small = omega (arith, l .times, ap length (times-chained rows), chained-length (λ u. u .times) times-long rows)
 
-  module _ {f : Task → ℕ} {old new : List ℕ} (c : Column f rows old new) where
+  module _ {f : Task → ℕ} {old new : List ℕ} (c : InFront f rows old new) where
     -- a column has a number for each row
     pub column-fits : t .count ≤ length new
     column-fits = omega (arith, count-is, front-fits f rows new _ (c .whole))
@@ -52,8 +52,8 @@ module _ {rows : List Task} {t : Table} (l : Lies rows t) where
 
 -- all columns
 pub all-columns : {rows : List Task} {t : Table} → CoreTable rows t → {is ks ps ts ds ns cs ls : List ℕ} {a b c d e f g h : List ℕ}
-    → Column (fieldOf 0) rows a is → Column (fieldOf 2) rows b ks → Column (fieldOf 3) rows c ps → Column (fieldOf 4) rows d ts
-    → Column (fieldOf 5) rows e ds → Column (fieldOf 6) rows f ns → Column cost rows g cs → Column (λ u. largest (u .times)) rows h ls
+    → InFront (fieldOf 0) rows a is → InFront (fieldOf 2) rows b ks → InFront (fieldOf 3) rows c ps → InFront (fieldOf 4) rows d ts
+    → InFront (fieldOf 5) rows e ds → InFront (fieldOf 6) rows f ns → InFront cost rows g cs → InFront (λ u. largest (u .times)) rows h ls
     → HeldCore rows (take (t .count) is) (take (t .count) ks) (take (t .count) ps) (take (t .count) ts) (take (t .count) ds)
     (take (t .count) ns) (take (t .count) cs) (take (t .count) ls) (t .times)
 unfolding parts

@@ -1,8 +1,8 @@
 -- One core's rows as the searches want them: the rows of that core alone, and a number of each in a column of its own.
 use Prim.Native.Nat.{ℕ, _≤_, _<_}
 use mathlib.Core.Path.{_≡_}
-use mathlib.Core.List.{List, _++_, map}
-use lib.ListN.{length, getD, drop}
+use mathlib.Core.List.{List}
+use lib.ListN.{length, getD}
 use Rattle.model.specs.Task.{Task, cost}
 use Rattle.model.specs.Rows.{GoodTask}
 use Rattle.lists.specs.Lists.{_∈_, sum, largest}
@@ -23,10 +23,6 @@ pub record Lies (rows : List Task) (t : Table) : Type 0 where
 -- field k of a row, in file order: 0 id, 1 core, 2 type, 3 priority, 4 period, 5 deadline, 6 part count
 abbrev pub fieldOf : ℕ → Task → ℕ
 fieldOf k u = getD (fieldsOf (rowOf u)) k 0
-
--- a number of each row stands in front, and what is past them stays
-pub record Column (f : Task → ℕ) (rows : List Task) (old new : List ℕ) : Type 0 where
-  pub whole : new ≡ map f rows ++ drop (length rows) old
 
 -- what may be asked for: one of the seven fields, the cost, the longest part
 abbrev pub Asked : Measure → Type 0

@@ -3,13 +3,13 @@ ghost use mathlib.Core.Path.{_≡_};
 ghost use mathlib.Core.List.{List};
 ghost use Prim.Native.Nat.{_≤_, _<_};
 ghost use lib.ListN.{length};
-ghost use Rattle.lists.specs.Lists.{sum, largest};
+ghost use Rattle.lists.specs.Lists.{sum, largest, InFront};
 ghost use Rattle.model.specs.Task.{Task, cost};
 ghost use Rattle.model.specs.Bounds.{onCore};
 ghost use Rattle.table.specs.Verdicts.{codeOf};
 ghost use Rattle.table.specs.Faults.{faultOf};
 ghost use Rattle.table.specs.Memory.{taskOf, tasksOf};
-ghost use Rattle.columns.specs.Columns.{Lies, Column, fieldOf, Asked, measureOf, Measurable};
+ghost use Rattle.columns.specs.Columns.{Lies, fieldOf, Asked, measureOf, Measurable};
 use table::Row;
 use table::Table;
 
@@ -98,7 +98,7 @@ fn measures(t: Table, what: Measure, out: &mut [u32])
     requires { ⌜ ((rows : List Task) × Lies rows t) ⌝ }
     requires { ⌜ 64 ≤ length (now out) ⌝ }
     requires { ⌜ Asked what ⌝ }
-    ensures { λ u. ⌜ ((rows : List Task) → Lies rows t → Column (measureOf what) rows (now (out .entry)) (now (out .exit))) ⌝ }
+    ensures { λ u. ⌜ ((rows : List Task) → Lies rows t → InFront (measureOf what) rows (now (out .entry)) (now (out .exit))) ⌝ }
 {
     let n = t.count;
     let times = t.times;
@@ -118,7 +118,7 @@ pub fn column(t: Table, k: usize, out: &mut [u32])
     requires { ⌜ ((rows : List Task) × Lies rows t) ⌝ }
     requires { ⌜ 64 ≤ length (now out) ⌝ }
     requires { ⌜ k < 7 ⌝ }
-    ensures { λ u. ⌜ ((rows : List Task) → Lies rows t → Column (fieldOf k) rows (now (out .entry)) (now (out .exit))) ⌝ }
+    ensures { λ u. ⌜ ((rows : List Task) → Lies rows t → InFront (fieldOf k) rows (now (out .entry)) (now (out .exit))) ⌝ }
 {
     measures(t, Measure::Field(k), out);
 }
@@ -127,7 +127,7 @@ pub fn column(t: Table, k: usize, out: &mut [u32])
 pub fn costs(t: Table, out: &mut [u32])
     requires { ⌜ ((rows : List Task) × Lies rows t) ⌝ }
     requires { ⌜ 64 ≤ length (now out) ⌝ }
-    ensures { λ u. ⌜ ((rows : List Task) → Lies rows t → Column cost rows (now (out .entry)) (now (out .exit))) ⌝ }
+    ensures { λ u. ⌜ ((rows : List Task) → Lies rows t → InFront cost rows (now (out .entry)) (now (out .exit))) ⌝ }
 {
     measures(t, Measure::Cost, out);
 }
@@ -136,7 +136,7 @@ pub fn costs(t: Table, out: &mut [u32])
 pub fn longest(t: Table, out: &mut [u32])
     requires { ⌜ ((rows : List Task) × Lies rows t) ⌝ }
     requires { ⌜ 64 ≤ length (now out) ⌝ }
-    ensures { λ v. ⌜ ((rows : List Task) → Lies rows t → Column (λ u. largest (u .times)) rows (now (out .entry)) (now (out .exit))) ⌝ }
+    ensures { λ v. ⌜ ((rows : List Task) → Lies rows t → InFront (λ u. largest (u .times)) rows (now (out .entry)) (now (out .exit))) ⌝ }
 {
     measures(t, Measure::Longest, out);
 }

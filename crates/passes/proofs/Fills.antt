@@ -11,7 +11,7 @@ use Rattle.lists.proofs.Maps.{map-length}
 use Rattle.lists.proofs.Places.{place-below}
 use Rattle.lists.proofs.Drops.{place-take}
 use Rattle.model.specs.Task.{Task}
-use Rattle.passes.specs.Held.{InFront}
+use Rattle.lists.specs.Lists.{InFront}
 
 module _ (f : Task → ℕ) (rows : List Task) where
   -- i numbers stand

@@ -3,7 +3,7 @@ use Prim.Native.Nat.{ℕ}
 use mathlib.Core.Path.{_≡_}
 use mathlib.Core.Bool.{Bool, false}
 use mathlib.Core.List.{List, [], _∷_, _++_, map}
-use lib.ListN.{length, drop}
+use lib.ListN.{length}
 use lib.Dec.{eqb, leb}
 use Rattle.lists.specs.Lists.{pick, keep, Place}
 use Rattle.model.specs.Task.{Task, parts}
@@ -61,10 +61,6 @@ pub record OwnFirst (rows : List Task) (t : Task) (n : ℕ) (ps cs : List ℕ) :
   pub count : n ≡ length (t ∷ higher rows t)
   pub periods : ps ≡ periodsOf (t ∷ higher rows t) ++ restP
   pub costs : cs ≡ costsOf (t ∷ higher rows t) ++ restC
-
--- a number of each row stands in front, and what is past them stays
-pub record InFront (f : Task → ℕ) (rows : List Task) (old new : List ℕ) : Type 0 where
-  pub whole : new ≡ map f rows ++ drop (length rows) old
 
 -- the part counts, the deadlines and the bounds of a core's rows
 pub record HeldBounds (rows : List Task) (ns ds xs : List ℕ) : Type 0 where

@@ -4,11 +4,11 @@ ghost use Prim.Native.Nat.{ℕ, _+_, _≤_};
 ghost use mathlib.Core.List.{List, _++_};
 ghost use lib.ListN.{length, drop};
 ghost use lib.Dec.{leb};
-ghost use Rattle.lists.specs.Lists.{pick, Place, total};
+ghost use Rattle.lists.specs.Lists.{pick, Place, InFront, total};
 ghost use Rattle.model.specs.Task.{Task, parts};
 ghost use Rattle.model.specs.Bounds.{highest, rowBounds};
 ghost use Rattle.model.specs.Bounds.{idOf};
-ghost use Rattle.passes.specs.Held.{chained, HeldRows, windowLength, HeldParts, HeldPreemptive, OwnFirst, InFront};
+ghost use Rattle.passes.specs.Held.{chained, HeldRows, windowLength, HeldParts, HeldPreemptive, OwnFirst};
 ghost use Rattle.passes.specs.Held.{RowHeld, HeldBounds, meets, HeldNumbers, isZero, takes};
 
 // Whether a row whose number is 0 is no lower than `top`.

@@ -8,7 +8,7 @@ use mathlib.Core.Path.{_≡_, refl, sym, ap, subst, _∙_}
 use mathlib.Core.List.{List, map}
 use lib.ListN.{length, getD, set, length-set}
 use lib.Seq.{sets, sets-eq}
-use Rattle.lists.specs.Lists.{sum}
+use Rattle.lists.specs.Lists.{sum, InFront}
 use Rattle.lists.proofs.Maps.{map-length}
 use Rattle.lists.proofs.Sums.{sum-most}
 use Rattle.model.specs.Task.{Task, parts, part}
@@ -18,7 +18,7 @@ use Rattle.table.specs.Memory.{zeroRow, taskOf, tasksOf}
 use Rattle.table.proofs.Stored.{tasks-stored}
 use Rattle.table.proofs.Ahead.{Ahead, lent, Next, next, none-ahead, stored-ahead}
 use Rattle.columns.specs.declared.Measure.{Measure}
-use Rattle.columns.specs.Columns.{Lies, Column, measureOf, Measurable}
+use Rattle.columns.specs.Columns.{Lies, measureOf, Measurable}
 use Rattle.columns.proofs.measures.Statement.{statement}
 use Rattle.columns.proofs.measures.Tie as tie
 
@@ -81,7 +81,7 @@ module _ {t : Table} {what : Measure} {old out : List ℕ} {used i : ℕ} (f : F
         }
 
   -- past the last row all numbers are stored
-  ends : t .count ≤ i → (rows : List Task) → Lies rows t → Column (measureOf what) rows old out
+  ends : t .count ≤ i → (rows : List Task) → Lies rows t → InFront (measureOf what) rows old out
   ends h rows l =
       let numbers : List ℕ = map (measureOf what) rows in
       let many : length numbers ≡ length rows = map-length (measureOf what) rows in
