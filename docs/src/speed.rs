@@ -3,7 +3,8 @@
 //! Build: rustc -O --edition 2021 docs/src/speed.rs -o target/speed
 //! Usage: speed REPORT SECOND [SEED]
 //!
-//! For each table: the time of each program (the least of some runs) and report's as a part of second's.
+//! For each table: the time of each program (the least of some runs), report's as a part of second's, and that again with the
+//! time on an empty file taken off both: what is left is the work.
 
 use std::io::Write;
 use std::process::{Command, ExitCode, Stdio};
@@ -112,7 +113,6 @@ fn main() -> ExitCode {
     let seed = words.get(3).and_then(|w| w.parse().ok()).unwrap_or(1);
     let mut random = Random(seed);
     let tables = [
-        ("empty file", Vec::new()),
         (
             "light: 60 rows on 4 cores, load 0.40",
             sixty(&mut random, 4, 400, 100_000, 2),
@@ -146,19 +146,20 @@ fn main() -> ExitCode {
         ),
     ];
     println!(
-        "{:>10} {:>10} {:>7}  table",
-        "report ms", "second ms", "ratio"
+        "{:>10} {:>10} {:>7} {:>7}  table",
+        "report ms", "second ms", "ratio", "net"
     );
+    let milliseconds = |d: Duration| d.as_secs_f64() * 1000.0;
+    let start = [report, second].map(|program| milliseconds(least(program, &[])));
     for (name, file) in tables {
-        let (a, b) = (least(report, &file), least(second, &file));
-        let milliseconds = |d: Duration| d.as_secs_f64() * 1000.0;
-        let ratio = a.as_secs_f64() / b.as_secs_f64();
-        println!(
-            "{:>10.2} {:>10.2} {:>7.3}  {name}",
-            milliseconds(a),
-            milliseconds(b),
-            ratio
-        );
+        let [a, b] = [report, second].map(|program| milliseconds(least(program, &file)));
+        // too little work says nothing
+        let net = if b - start[1] < 1.0 {
+            String::from("-")
+        } else {
+            format!("{:.3}", (a - start[0]) / (b - start[1]))
+        };
+        println!("{a:>10.2} {b:>10.2} {:>7.3} {net:>7.3}  {name}", a / b);
     }
     ExitCode::SUCCESS
 }
