@@ -159,7 +159,7 @@ fn main() -> ExitCode {
         } else {
             format!("{:.3}", (a - start[0]) / (b - start[1]))
         };
-        println!("{a:>10.2} {b:>10.2} {:>7.3} {net:>7.3}  {name}", a / b);
+        println!("{a:>10.2} {b:>10.2} {:>7.3} {net:>7}  {name}", a / b);
     }
     ExitCode::SUCCESS
 }
