@@ -122,16 +122,20 @@ fn main() -> ExitCode {
             sixty(&mut random, 1, 600, 100_000, 2),
         ),
         (
-            "60 rows on 1 core, load 0.95",
+            "60 rows on 1 core, load 0.95, windows near 3 million",
             sixty(&mut random, 1, 950, 1_000_000, 16),
         ),
         (
-            "heavy: 60 rows on 1 core, load 0.999, periods to 50,000",
+            "60 rows on 1 core, load 0.999, windows near 1.5 million",
             sixty(&mut random, 1, 999, 50_000, 16),
         ),
         (
-            "heavy: 60 rows on 1 core, load 0.999, periods to 100,000",
+            "heavy: 60 rows on 1 core, load 0.999, windows near 5 million",
             sixty(&mut random, 1, 999, 100_000, 16),
+        ),
+        (
+            "heavy: 60 rows on 1 core, load 0.999, windows near 8 million",
+            sixty(&mut random, 1, 999, 150_000, 16),
         ),
         (
             "many jobs: T 2 C 1 above one part of 8,388,607",
