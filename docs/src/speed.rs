@@ -134,7 +134,7 @@ fn main() -> ExitCode {
             sixty(&mut random, 1, 999, 100_000, 16),
         ),
         (
-            "heavy: 60 rows on 1 core, load 0.999, windows near 8 million",
+            "heavy: 60 rows on 1 core, load 0.999, windows near 10 million",
             sixty(&mut random, 1, 999, 150_000, 16),
         ),
         (
