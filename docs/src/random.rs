@@ -7,6 +7,9 @@
 //! in all, are drawn from the seed. File number N is the same in every run with the same seed.
 //! At the first difference it prints the file in hex and both outputs, and leaves with 1.
 
+mod splitmix;
+
+use splitmix::Random;
 use std::io::{Read, Write};
 use std::process::{Command, ExitCode, Stdio};
 use std::sync::atomic::{AtomicUsize, Ordering};
@@ -24,26 +27,10 @@ const MOST_PRINTED: u64 = 1_000_000;
 
 // ---- Random numbers ----
 
-/// The splitmix64 generator.
-struct Random(u64);
-
 impl Random {
-    fn next(&mut self) -> u64 {
-        self.0 = self.0.wrapping_add(0x9E37_79B9_7F4A_7C15);
-        let mut z = self.0;
-        z = (z ^ (z >> 30)).wrapping_mul(0xBF58_476D_1CE4_E5B9);
-        z = (z ^ (z >> 27)).wrapping_mul(0x94D0_49BB_1331_11EB);
-        z ^ (z >> 31)
-    }
-
     /// From 0 up to, and without, `end`.
     fn below(&mut self, end: usize) -> usize {
         self.between(0, end.max(1) as u64 - 1) as usize
-    }
-
-    /// From `least` up to and with `most`.
-    fn between(&mut self, least: u64, most: u64) -> u64 {
-        least + self.next() % (most.max(least) - least + 1)
     }
 
     /// Like `between`, but each length in bits is about as likely.

@@ -6,6 +6,9 @@
 //! For each table: the time of each program (the least of some runs), report's as a part of second's, and that again with the
 //! time on an empty file taken off both: what is left is the work.
 
+mod splitmix;
+
+use splitmix::Random;
 use std::io::Write;
 use std::process::{Command, ExitCode, Stdio};
 use std::time::{Duration, Instant};
@@ -16,23 +19,6 @@ const PATIENCE: Duration = Duration::from_secs(20);
 
 /// One task: core, kind, priority, period, deadline, times.
 struct Row(u64, u64, u64, u64, u64, Vec<u64>);
-
-/// The splitmix64 generator.
-struct Random(u64);
-
-impl Random {
-    fn next(&mut self) -> u64 {
-        self.0 = self.0.wrapping_add(0x9E37_79B9_7F4A_7C15);
-        let mut z = self.0;
-        z = (z ^ (z >> 30)).wrapping_mul(0xBF58_476D_1CE4_E5B9);
-        z = (z ^ (z >> 27)).wrapping_mul(0x94D0_49BB_1331_11EB);
-        z ^ (z >> 31)
-    }
-
-    fn between(&mut self, least: u64, most: u64) -> u64 {
-        least + self.next() % (most - least + 1)
-    }
-}
 
 /// Seven bits a byte, low bits first, shortest form.
 fn put(file: &mut Vec<u8>, mut value: u64) {
