@@ -23,8 +23,7 @@ use Rattle.files.specs.Reading.{Step, stop, go, decode, loaded, readAnswer}
 use Rattle.files.proofs.Stops.{stop-fault}
 use Rattle.files.proofs.Back.{file-back}
 use Rattle.analysis.specs.declared.Analysed.{Analysed}
-use Rattle.analysis.specs.Analysis.{writes, coreSaid, Gives, fileSaid, fileRows, Analyses, tableSaid, AnalysesTable}
-use Rattle.analysis.specs.Promises.{roomSaid}
+use Rattle.analysis.specs.Analysis.{writes, roomSaid, coreSaid, Gives, fileSaid, fileRows, Analyses, tableSaid, AnalysesTable}
 use Rattle.analysis.proofs.Given.{reading-writes-none, gives-none, gives-same}
 
 -- code 9 writes nothing
@@ -50,7 +49,7 @@ module _ (t : Table) (core : ℕ) (room : List ℕ) where
     -- one of the four: what its rows say
     pub some-core : core ≤ 3 → {r : Analysed} {room′ : List ℕ}
         → Gives (roomSaid (onCore core (tasksOf t)) (length room)) (onCore core (tasksOf t)) room r room′ → AnalysesTable t core room r room′
-    unfolding tableSaid coreSaid roomSaid
+    unfolding tableSaid coreSaid
     some-core h g = gives-same (sym (or-good (faultOf t) _ fine ∙ rw (le-ltb 3 core h))) g
 
 -- stored tasks without a fault

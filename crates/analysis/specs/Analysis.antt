@@ -35,10 +35,13 @@ named passes = Good
 named (noWindow t) = NoWindow (t .id)
 named (misses t) = Missed (t .id)
 
--- 9, 10, 11, 12, for the rows of a core and so much room
+-- 10, 11, 12, for the rows of a core and so much room
+unfoldable pub roomSaid : List Task → ℕ → Verdict
+roomSaid rows room = pick (ltb room (needed rows)) (NoRoom (needed rows)) (named (coreVerdict rows))
+
+-- 9, and then these
 unfoldable pub coreSaid : ℕ → List Task → ℕ → Verdict
-coreSaid core rows room =
-    pick (ltb 3 core) (NoSuchCore core) (pick (ltb room (needed rows)) (NoRoom (needed rows)) (named (coreVerdict rows)))
+coreSaid core rows room = pick (ltb 3 core) (NoSuchCore core) (roomSaid rows room)
 
 -- code 12 writes all bounds; every other refusal writes none
 unfoldable pub writes : Verdict → Bool

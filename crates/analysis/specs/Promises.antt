@@ -1,23 +1,14 @@
--- What the functions on the way take and answer: a core's rows in columns, and what is said of them.
+-- What the functions on the way take: a core's rows in a table of their own, and in columns.
 use Prim.Native.Nat.{ℕ, _≤_}
 use mathlib.Core.Path.{_≡_}
 use mathlib.Core.List.{List, _++_, map}
-use lib.Dec.{ltb}
-use Rattle.lists.specs.Lists.{pick}
 use Rattle.model.specs.Task.{Task, parts}
-use Rattle.model.specs.Bounds.{coreVerdict}
 use Rattle.model.specs.Rows.{GoodCore}
 use Rattle.table.specs.declared.Table.{Table}
-use Rattle.table.specs.declared.Verdict.{Verdict}
-use Rattle.table.specs.declared.Verdict.the-variants.{NoRoom}
 use Rattle.columns.specs.Columns.{Lies}
 use Rattle.passes.specs.Held.{chained, HeldRows, windowLength}
 use Rattle.model.specs.Verdict.{AllWindows}
-use Rattle.analysis.specs.Analysis.{needed, named}
-
--- 10, 11, 12, for the rows of a core and so much room
-unfoldable pub roomSaid : List Task → ℕ → Verdict
-roomSaid rows room = pick (ltb room (needed rows)) (NoRoom (needed rows)) (named (coreVerdict rows))
+use Rattle.analysis.specs.Analysis.{needed}
 
 -- a core's rows that lie in a table of their own
 pub record CoreTable (rows : List Task) (t : Table) : Type 0 where

@@ -3,8 +3,8 @@ ghost use mathlib.Core.List.{List};
 ghost use lib.ListN.{length};
 ghost use Rattle.model.specs.Task.{Task};
 ghost use Rattle.model.specs.Bounds.{coreVerdict};
-ghost use Rattle.analysis.specs.Analysis.{named, Gives, Analyses, AnalysesTable};
-ghost use Rattle.analysis.specs.Promises.{roomSaid, CoreTable, HeldCore, HeldWindows};
+ghost use Rattle.analysis.specs.Analysis.{named, roomSaid, Gives, Analyses, AnalysesTable};
+ghost use Rattle.analysis.specs.Promises.{CoreTable, HeldCore, HeldWindows};
 use table::Table;
 use table::Verdict;
 

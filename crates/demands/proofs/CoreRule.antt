@@ -13,13 +13,13 @@ use Rattle.model.specs.Verdict.{AllWindows, Passes, Judged}
 use Rattle.model.proofs.Verdict.{verdict-says, judged-same}
 use Rattle.table.specs.declared.Verdict.{Verdict}
 use Rattle.table.specs.Verdicts.{codeOf}
-use Rattle.analysis.specs.Analysis.{needed, named, coreSaid}
+use Rattle.analysis.specs.Analysis.{needed, named, roomSaid, coreSaid}
 use Rattle.demands.specs.Rules.{Enough, CoreRule}
 
 module _ (core : ℕ) (rows : List Task) (room : ℕ) where
   -- with such a core and room enough the verdict decides
   enough-said : Enough core rows room → (v : CoreVerdict) → coreVerdict rows ≡ v → coreSaid core rows room ≡ named v
-  unfolding coreSaid
+  unfolding coreSaid roomSaid
   enough-said e v same = rw (le-ltb 3 core (e .such), le-ltb room (needed rows) (e .fits), same)
 
   -- a right verdict is the core's
@@ -28,7 +28,7 @@ module _ (core : ℕ) (rows : List Task) (room : ℕ) where
 
   -- what a rule says is said
   pub rule-said : Distinct rows → {v : Verdict} → CoreRule core rows room v → coreSaid core rows room ≡ v
-  unfolding coreSaid named
+  unfolding coreSaid roomSaid named
   rule-said d (CoreRule.above h) = rw (lt-ltb 3 core h)
   rule-said d (CoreRule.short h k) = rw (le-ltb 3 core h, lt-ltb room (needed rows) k)
   rule-said d (CoreRule.window {t = t} e w) = enough-said e (noWindow t) (right d (noWindow t) w)

@@ -14,7 +14,7 @@ use Rattle.table.specs.Fields.{head, judge}
 use Rattle.table.specs.Memory.{allTimes}
 use Rattle.table.specs.Clash.{coopAbove, breaks, clashAfter, broken, clashOf}
 use Rattle.files.specs.Reading.{go, _then_, unless, asked, fieldAt, fieldsAt, rowAt, rowsAt, endAt, decode}
-use Rattle.analysis.specs.Analysis.{needed, boundsOf, named, coreSaid, writes, answered, roomAfter, fileSaid, fileRows, Analyses}
+use Rattle.analysis.specs.Analysis.{needed, boundsOf, named, roomSaid, coreSaid, writes, answered, roomAfter, fileSaid, fileRows, Analyses}
 use Rattle.demands.specs.Samples.{bytesA, Samples}
 
 -- what computes on bytes
@@ -34,7 +34,7 @@ read-a = refl
 
 -- its answer and its room
 bounds-a : Analyses (bytesA 20) 0 (0 ∷ 0 ∷ 0 ∷ 0 ∷ 0 ∷ 6 ∷ []) (record { verdict = C.Good; count = 5 }) (1 ∷ 5 ∷ 8 ∷ 7 ∷ 10 ∷ 6 ∷ [])
-unfolding fileSaid fileRows coreSaid named needed total parts onCore keep writes answered roomAfter boundsOf rowBounds listed
+unfolding fileSaid fileRows coreSaid roomSaid named needed total parts onCore keep writes answered roomAfter boundsOf rowBounds listed
 bounds-a =
     let m = Model.samples in
     rw (read-a, m .goodA .0)
@@ -45,7 +45,7 @@ bounds-a =
 
 -- all samples hold
 pub samples : Samples
-unfolding reading ending coreSaid named needed total parts
+unfolding reading ending coreSaid roomSaid named needed total parts
 samples =
     let m = Model.samples in
     record {

@@ -22,7 +22,7 @@ use Rattle.table.specs.Faults.{faultOf}
 use Rattle.table.proofs.Codes.{or-good}
 use Rattle.table.proofs.GoodTasks.{times-fit, count-few, rows-same, tasks-good}
 use Rattle.analysis.specs.declared.Analysed.{Analysed}
-use Rattle.analysis.specs.Analysis.{needed, boundsOf, coreBounds, named, coreSaid, writes, answered, roomAfter, Gives, tableSaid}
+use Rattle.analysis.specs.Analysis.{needed, boundsOf, coreBounds, named, roomSaid, coreSaid, writes, answered, roomAfter, Gives, tableSaid}
 use Rattle.sheet.specs.Text.{each}
 use Rattle.sheet.specs.Sheet.{boundLine, rowLines, linesOf, coreTextOf, coreText}
 use Rattle.sheet.specs.Promises.{rowText, partsOn, rowsText, coreBytes, Enough}
@@ -93,12 +93,12 @@ lines-same core rows (t ∷ ts) rest =
 
 -- where there is room, it is what is said of the core
 pub said-alike : (core : ℕ) (rows : List Task) (room : ℕ) → needed rows ≤ room → coreSaid core rows room ≡ coreSaid core rows (needed rows)
-unfolding coreSaid
+unfolding coreSaid roomSaid
 said-alike core rows room h = rw (le-ltb room (needed rows) h, le-ltb (needed rows) (needed rows) (omega arith))
 
 -- on one of the four cores: good, or code 11 or 12
 pub said-is : (core : ℕ) (rows : List Task) → core ≤ 3 → coreSaid core rows (needed rows) ≡ named (coreVerdict rows)
-unfolding coreSaid
+unfolding coreSaid roomSaid
 said-is core rows h = rw (le-ltb 3 core h, le-ltb (needed rows) (needed rows) (omega arith))
 
 -- without code 11 the bounds are written

@@ -12,7 +12,7 @@ use Rattle.table.specs.Fields.{head, judge}
 use Rattle.table.specs.Memory.{allTimes}
 use Rattle.table.specs.Clash as clash
 use Rattle.files.specs.Reading as reading
-use Rattle.analysis.specs.Analysis.{needed, named, coreSaid}
+use Rattle.analysis.specs.Analysis.{needed, named, roomSaid, coreSaid}
 use Rattle.sheet.specs.Text.{decimalIn, decimal, line, each}
 use Rattle.sheet.specs.Sheet as sheet
 use Rattle.sheet.specs.SetA.{fileA, reportA, SetAReport}
@@ -49,7 +49,7 @@ ends = 0
 
 -- the verdict of a core
 verdicts : ℕ
-unfolding ends bounds.meetsDeadline bounds.above bounds.highest bounds.judgedBy bounds.coreVerdict bounds.onCore needed named coreSaid
+unfolding ends bounds.meetsDeadline bounds.above bounds.highest bounds.judgedBy bounds.coreVerdict bounds.onCore needed named roomSaid coreSaid
 verdicts = 0
 
 -- in printing

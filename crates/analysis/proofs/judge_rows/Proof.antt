@@ -14,8 +14,8 @@ use Rattle.model.specs.Bounds.{highest, coreVerdict}
 use Rattle.model.specs.Bounds.{idOf}
 use Rattle.table.specs.declared.Verdict.the-variants.{NoRoom, NoWindow}
 use Rattle.passes.specs.Held.{windowLength, isZero}
-use Rattle.analysis.specs.Analysis.{needed, named, writes}
-use Rattle.analysis.specs.Promises.{roomSaid, HeldCore, HeldWindows}
+use Rattle.analysis.specs.Analysis.{needed, named, writes, roomSaid}
+use Rattle.analysis.specs.Promises.{HeldCore, HeldWindows}
 use Rattle.analysis.proofs.Said.{no-window, all-windows}
 use Rattle.analysis.proofs.Given.{gives-none, gives-same}
 use Rattle.analysis.proofs.Columned.{ids-length, kinds-few, counts-sum, numbers-held}
