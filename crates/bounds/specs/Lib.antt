@@ -1,3 +1,4 @@
+pub mod Loads
 pub mod Slices
 pub mod Gathered
 pub mod Steps
