@@ -7,8 +7,8 @@ use Rattle.lists.specs.Lists.{pick}
 use Rattle.model.specs.Task.{Task, part}
 use Rattle.model.specs.Rows.{GoodCore}
 use Rattle.model.specs.Bounds.{idOf}
-use Rattle.model.specs.Machine.{Run, runs, standAt, Allowed}
-use Rattle.model.specs.Samples.{a3, setA}
+use Rattle.model.specs.Machine.{Run, released, runs, standAt, Allowed}
+use Rattle.model.specs.Samples.{a3, setA, b2, pair}
 
 -- each task released in its first tick and then each period, every part using its worst time
 unfoldable pub periodic : (Task → ℕ) → Run
@@ -35,6 +35,14 @@ together = periodic (λ task. 0)
 abbrev pub second-later : Run
 second-later = periodic (λ task. pick (eqb (task .id) 2) 2 0)
 
+-- all released at tick 0, and each part of task 1 using one tick less than its worst time
+unfoldable pub one-less : Run
+one-less =
+    record {
+      release = together .release;
+      uses = λ task q r. pick (eqb (task .id) 1) (part task r - 1) (part task r);
+    }
+
 -- what a reader can follow with a pencil
 pub record MachineSample : Type 0 where
   -- task 1 cuts in at tick 5, while task 3's first part is open; at tick 14 nothing is left to run
@@ -46,3 +54,10 @@ pub record MachineSample : Type 0 where
   pub job-done : standAt (setA 20) together 10 (a3 20) ≡ record { done = 1; at = 0; ran = 0 }
   -- task 2 is released while task 3's first part is open: the part goes on, then task 2 comes before task 3's second part
   pub later-second : ranIn (setA 20) second-later 9 ≡ 1 ∷ 3 ∷ 3 ∷ 2 ∷ 2 ∷ 1 ∷ 2 ∷ 3 ∷ 3 ∷ []
+  -- T 70 C 26 above T 100 C 62: before tick 101 two jobs of the lower row are released and none is done; the first ends at 114,
+  -- and the second then begins
+  pub two-pending : (released together b2 101 ≡ 2) × (standAt pair together 101 b2 ≡ record { done = 0; at = 0; ran = 49 })
+  pub first-ends : standAt pair together 114 b2 ≡ record { done = 1; at = 0; ran = 0 }
+  pub second-begins : standAt pair together 115 b2 ≡ record { done = 1; at = 0; ran = 1 }
+  -- with 25 ticks for each job of the upper row the lower row's first job ends two ticks sooner
+  pub shorter-part : standAt pair one-less 112 b2 ≡ record { done = 1; at = 0; ran = 0 }
