@@ -18,3 +18,4 @@ pub mod MachineSample
 pub mod BegunSample
 pub mod Cores
 pub mod Highest
+pub mod Ranges
