@@ -2,10 +2,10 @@
 use Prim.Native.Nat.{ℕ}
 use mathlib.Core.Path.{_≡_}
 use mathlib.Core.Bool.{Bool, _||_}
-use mathlib.Core.List.{List, [], _∷_, _++_}
-use lib.ListN.{length, drop}
+use mathlib.Core.List.{List, []}
+use lib.ListN.{length}
 use lib.Dec.{eqb, ltb}
-use Rattle.lists.specs.Lists.{pick, total}
+use Rattle.lists.specs.Lists.{pick, total, each, over}
 use Rattle.model.specs.Task.{Task, parts}
 use Rattle.model.specs.Bounds.{onCore, rowBounds, CoreVerdict, passes, noWindow, misses, coreVerdict}
 use Rattle.table.specs.declared.Table.{Table}
@@ -22,12 +22,8 @@ unfoldable pub needed : List Task → ℕ
 needed rows = total parts rows
 
 -- bounds in row order, parts in order
-unfoldable pub boundsOf : List Task → List Task → List ℕ
-boundsOf rows [] = []
-boundsOf rows (t ∷ ts) = rowBounds rows t ++ boundsOf rows ts
-
-abbrev pub coreBounds : List Task → List ℕ
-coreBounds rows = boundsOf rows rows
+unfoldable pub coreBounds : List Task → List ℕ
+coreBounds rows = each (rowBounds rows) rows
 
 -- codes 11 and 12 name the highest-priority task concerned
 unfoldable pub named : CoreVerdict → Verdict
@@ -47,13 +43,17 @@ coreSaid core rows room = pick (ltb 3 core) (NoSuchCore core) (roomSaid rows roo
 unfoldable pub writes : Verdict → Bool
 writes v = eqb (codeOf v) 0 || eqb (codeOf v) 12
 
+-- a refusal that writes none
+abbrev pub refusal : Verdict → Analysed
+refusal v = record { verdict = v; count = 0 }
+
 -- the answer also says how many bounds were written
 unfoldable pub answered : Verdict → List Task → Analysed
-answered v rows = record { verdict = v; count = pick (writes v) (needed rows) 0 }
+answered v rows = pick (writes v) (record { verdict = v; count = needed rows }) (refusal v)
 
 -- elements past the bounds stay
 unfoldable pub roomAfter : Verdict → List Task → List ℕ → List ℕ
-roomAfter v rows room = pick (writes v) (coreBounds rows ++ drop (needed rows) room) room
+roomAfter v rows room = pick (writes v) (over (coreBounds rows) room) room
 
 -- what an analysis gives, by what is said and the core's rows: the answer and every element of the room
 pub record Gives (v : Verdict) (rows : List Task) (room : List ℕ) (r : Analysed) (room′ : List ℕ) : Type 0 where

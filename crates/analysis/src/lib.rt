@@ -1,10 +1,18 @@
 // One core's answer: what is said of it, and its bounds in lent room.
-ghost use mathlib.Core.List.{List};
-ghost use lib.ListN.{length};
+ghost use mathlib.Core.Path.{_≡_};
+ghost use Prim.Native.Nat.{_≤_, _<_};
+ghost use lib.ListN.{length, take};
+ghost use lib.Dec.{ltb};
+ghost use Rattle.lists.specs.Lists.{pick};
 ghost use Rattle.model.specs.Task.{Task};
-ghost use Rattle.model.specs.Bounds.{coreVerdict};
-ghost use Rattle.analysis.specs.Analysis.{named, roomSaid, Gives, Analyses, AnalysesTable};
-ghost use Rattle.analysis.specs.Promises.{CoreTable, HeldCore, HeldWindows};
+ghost use Rattle.cores.specs.Cores.{tasksIn};
+ghost use Rattle.cores.specs.Promises.{IsCore};
+ghost use Rattle.analysis.specs.Analysis.{refusal, roomSaid, Gives, Analyses, AnalysesTable};
+ghost use Rattle.analysis.specs.Promises.{AtRow, Bounding, ToBound, windowIn, boundsOn, topRow, Windows, Bounded};
+use bounds::Own;
+use cores::Asked;
+use cores::Core;
+use table::Row;
 use table::Table;
 use table::Verdict;
 
@@ -14,138 +22,143 @@ pub struct Analysed {
     pub count: usize,
 }
 
-// The bounds of rows that all have a window go to the room; 12 where one is above its deadline.
-fn judge_bounds(
-    ids: &[u32],
-    kinds: &[u32],
-    priorities: &[u32],
-    periods: &[u32],
-    deadlines: &[u32],
-    counts: &[u32],
-    costs: &[u32],
-    longest: &[u32],
-    times: &[u32],
-    windows: &[u32],
+// The row to name so far: its id and priority, both 0 for none.
+struct Top {
+    id: u32,
+    priority: u32,
+}
+
+// What is said where no bound is written.
+fn refused(verdict: Verdict) -> Analysed
+    ensures { λ r. ⌜ r ≡ refusal verdict ⌝ }
+{
+    Analysed { verdict, count: 0 }
+}
+
+// The higher of the row to name so far and another.
+fn higher_of(top: Top, row: Row) -> Top
+    ensures { λ r. ⌜ r ≡ pick (ltb (top .priority) (row .priority)) (topRow row) top ⌝ }
+{
+    if top.priority < row.priority {
+        return Top {
+            id: row.id,
+            priority: row.priority,
+        };
+    }
+    top
+}
+
+// The window of row `own`, 0 for none.
+fn row_window(asked: [Asked; 64], count: usize, own: usize) -> u32
+    requires { ⌜ AtRow asked count own ⌝ }
+    ensures { λ r. ⌜ r ≡ windowIn (take count asked) own ⌝ }
+{
+    let blocking = cores::blocking_of(asked, count, own);
+    let mut loads = [0u32; 128];
+    let n = cores::own_first(asked, count, own, &mut loads);
+    let answer = bounds::window_of(&loads[..n], blocking);
+    bounds::value_of(answer) as u32
+}
+
+// The window of each row, 0 for none, to the front of `out`; the id of the highest row without one, 0 where all have one.
+fn windows(c: Core, out: &mut [u32]) -> u32
+    requires { ⌜ IsCore c × (64 ≤ length (now out)) ⌝ }
+    ensures { λ r. ⌜ Windows (tasksIn c) (now (out .entry)) r (now (out .exit)) ⌝ }
+{
+    let own = c.own;
+    let n = own.count;
+    let asked = c.asked;
+    let mut top = Top { id: 0, priority: 0 };
+    let mut i = 0;
+    while i < n {
+        let length = row_window(asked, n, i);
+        out[i] = length;
+        if length == 0 {
+            let row = own.rows[i];
+            top = higher_of(top, row);
+        }
+        i += 1;
+    }
+    top.id
+}
+
+// The bounds of row `own`, whose window and times are these.
+fn row_bounds_of(
+    asked: [Asked; 64],
     count: usize,
-    room: &mut [u32],
-) -> Analysed
-    requires { ⌜ ((rows : List Task) × HeldCore rows (now ids) (now kinds) (now priorities) (now periods) (now deadlines) (now counts)
-        (now costs) (now longest) (now times)
-        × HeldWindows rows (now windows) count (length (now room))) ⌝ }
-    ensures { λ r. ⌜ ((rows : List Task)
-        → HeldCore rows (now (ids .entry)) (now (kinds .entry)) (now (priorities .entry)) (now (periods .entry)) (now (deadlines .entry))
-        (now (counts .entry)) (now (costs .entry)) (now (longest .entry)) (now (times .entry))
-        → HeldWindows rows (now (windows .entry)) count (length (now (room .entry)))
-        → Gives (named (coreVerdict rows)) rows (now (room .entry)) r (now (room .exit))) ⌝ }
-{
-    passes::core_bounds(
-        kinds,
-        priorities,
-        periods,
-        costs,
-        longest,
-        windows,
-        counts,
-        times,
-        &mut *room,
-    );
-    let n = ids.len();
-    let mut met = [0u32; 64];
-    passes::deadlines_met(counts, deadlines, room, &mut met);
-    let late = passes::highest_zero(ids, priorities, &met[..n]);
-    if late != 0 {
-        let verdict = Verdict::Missed(late as usize);
-        return Analysed { verdict, count };
-    }
-    let verdict = Verdict::Good;
-    Analysed { verdict, count }
-}
-
-// The room, then the windows, and only then the bounds.
-fn judge_rows(
-    ids: &[u32],
-    kinds: &[u32],
-    priorities: &[u32],
-    periods: &[u32],
-    deadlines: &[u32],
-    counts: &[u32],
-    costs: &[u32],
-    longest: &[u32],
+    own: usize,
+    window: u32,
     times: &[u32],
     room: &mut [u32],
-) -> Analysed
-    requires { ⌜ ((rows : List Task) × HeldCore rows (now ids) (now kinds) (now priorities) (now periods) (now deadlines) (now counts)
-        (now costs) (now longest) (now times)) ⌝ }
-    ensures { λ r. ⌜ ((rows : List Task)
-        → HeldCore rows (now (ids .entry)) (now (kinds .entry)) (now (priorities .entry)) (now (periods .entry)) (now (deadlines .entry))
-        (now (counts .entry)) (now (costs .entry)) (now (longest .entry)) (now (times .entry))
-        → Gives (roomSaid rows (length (now (room .entry)))) rows (now (room .entry)) r (now (room .exit))) ⌝ }
+)
+    requires { ⌜ Bounding asked count own window (now times) × (length (now room) ≡ length (now times)) ⌝ }
+    ensures { λ r. ⌜ now (room .exit) ≡ boundsOn (take count asked) own window (now (times .entry)) ⌝ }
 {
-    let needed = columns::sum_of(counts) as usize;
-    if room.len() < needed {
-        let verdict = Verdict::NoRoom(needed);
-        return Analysed { verdict, count: 0 };
-    }
-    let n = ids.len();
-    let mut windows = [0u32; 64];
-    passes::windows(kinds, priorities, periods, costs, longest, &mut windows);
-    let none = passes::highest_zero(ids, priorities, &windows[..n]);
-    if none != 0 {
-        let verdict = Verdict::NoWindow(none as usize);
-        return Analysed { verdict, count: 0 };
-    }
-    judge_bounds(
-        ids,
-        kinds,
-        priorities,
-        periods,
-        deadlines,
-        counts,
-        costs,
-        longest,
-        times,
-        &windows[..n],
-        needed,
-        room,
-    )
+    let blocking = cores::blocking_of(asked, count, own);
+    let mut loads = [0u32; 128];
+    let n = cores::own_first(asked, count, own, &mut loads);
+    let mut preemptive = [0u32; 128];
+    let m = cores::preemptive_loads(asked, count, &mut preemptive);
+    let row = asked[own];
+    let cooperative = row.kind == 1;
+    let brings = Own {
+        cooperative,
+        blocking,
+        window: window as u64,
+    };
+    bounds::row_bounds(&loads[..n], &preemptive[..m], brings, times, room)
 }
 
-// The rows of a core in a table of their own: 10, 11, 12.
-fn analyse_core(t: Table, room: &mut [u32]) -> Analysed
-    requires { ⌜ ((rows : List Task) × CoreTable rows t) ⌝ }
-    ensures { λ r. ⌜ ((rows : List Task) → CoreTable rows t
-        → Gives (roomSaid rows (length (now (room .entry)))) rows (now (room .entry)) r (now (room .exit))) ⌝ }
+// The bounds of each row's parts to the front of the room, row by row; the id of the highest row that is late, 0 for none.
+fn core_bounds(c: Core, windows: &[u32], room: &mut [u32]) -> u32
+    requires { ⌜ ToBound c (now windows) (length (now room)) ⌝ }
+    ensures { λ r. ⌜ Bounded (tasksIn c) (now (room .entry)) r (now (room .exit)) ⌝ }
 {
-    let n = t.count;
-    let times = t.times;
-    let mut ids = [0u32; 64];
-    let mut kinds = [0u32; 64];
-    let mut priorities = [0u32; 64];
-    let mut periods = [0u32; 64];
-    let mut deadlines = [0u32; 64];
-    let mut counts = [0u32; 64];
-    let mut costs = [0u32; 64];
-    let mut longest = [0u32; 64];
-    columns::column(t, 0, &mut ids);
-    columns::column(t, 2, &mut kinds);
-    columns::column(t, 3, &mut priorities);
-    columns::column(t, 4, &mut periods);
-    columns::column(t, 5, &mut deadlines);
-    columns::column(t, 6, &mut counts);
-    columns::costs(t, &mut costs);
-    columns::longest(t, &mut longest);
-    judge_rows(
-        &ids[..n],
-        &kinds[..n],
-        &priorities[..n],
-        &periods[..n],
-        &deadlines[..n],
-        &counts[..n],
-        &costs[..n],
-        &longest[..n],
-        &times,
-        room,
-    )
+    let own = c.own;
+    let n = own.count;
+    let times = own.times;
+    let asked = c.asked;
+    let mut top = Top { id: 0, priority: 0 };
+    let mut a: usize = 0;
+    let mut i = 0;
+    while i < n {
+        let row = own.rows[i];
+        let e = a + row.parts as usize;
+        row_bounds_of(asked, n, i, windows[i], &times[a..e], &mut room[a..e]);
+        if row.deadline < room[e - 1] {
+            top = higher_of(top, row);
+        }
+        a = e;
+        i += 1;
+    }
+    top.id
+}
+
+// The rows of a core: 10, 11, 12.
+pub fn analyse_core(c: Core, room: &mut [u32]) -> Analysed
+    requires { ⌜ IsCore c ⌝ }
+    ensures { λ r. ⌜ Gives (roomSaid (tasksIn c) (length (now (room .entry)))) (tasksIn c) (now (room .entry)) r (now (room .exit)) ⌝ }
+{
+    let needed = c.parts;
+    if room.len() < needed {
+        return refused(Verdict::NoRoom(needed));
+    }
+    let mut lengths = [0u32; 64];
+    let none = windows(c, &mut lengths);
+    if none != 0 {
+        return refused(Verdict::NoWindow(none as usize));
+    }
+    let late = core_bounds(c, &lengths, room);
+    if late != 0 {
+        return Analysed {
+            verdict: Verdict::Missed(late as usize),
+            count: needed,
+        };
+    }
+    Analysed {
+        verdict: Verdict::Good,
+        count: needed,
+    }
 }
 
 // The answer for one core of a table in memory: its own faults first, then 9, 10, 11, 12.
@@ -154,17 +167,12 @@ pub fn analyse_table(t: Table, core: u32, room: &mut [u32]) -> Analysed
 {
     let fault = table::fault_of(t);
     if table::code_of(fault) != 0 {
-        return Analysed {
-            verdict: fault,
-            count: 0,
-        };
+        return refused(fault);
     }
     if 3 < core {
-        let verdict = Verdict::NoSuchCore(core as usize);
-        return Analysed { verdict, count: 0 };
+        return refused(Verdict::NoSuchCore(core as usize));
     }
-    let rows = columns::only_core(t, core);
-    analyse_core(rows, room)
+    analyse_core(cores::core_of(t, core), room)
 }
 
 // The answer for one core of a table file: the reading codes first.
@@ -174,7 +182,7 @@ pub fn analyse(bytes: &[u8], core: u32, room: &mut [u32]) -> Analysed
     let file = files::read(bytes);
     let verdict = file.verdict;
     if table::code_of(verdict) != 0 {
-        return Analysed { verdict, count: 0 };
+        return refused(verdict);
     }
     let table = file.table;
     analyse_table(table, core, room)

@@ -4,8 +4,8 @@ use native.Mathlib.Nat.{zero-add}
 use native.Mathlib.Omega.{arith}
 use mathlib.Core.Path.{_≡_, refl, sym, ap, _∙_}
 use mathlib.Core.List.{List, [], _∷_, _++_, append-assoc}
-use lib.ListN.{length, take, drop, set, length-append, length-drop}
-use lib.Seq.{sets, sets-eq, take-append-seam, drop-append-seam, drop-drop, set-append-seam, append-snoc, drop-cons}
+use lib.ListN.{length, getD, take, drop, set, length-append, length-drop, List·getD-append}
+use lib.Seq.{sets, sets-eq, take-append-seam, drop-append-seam, drop-drop, getD-append-add}
 use Rattle.lists.specs.Lists.{over}
 use Rattle.lists.proofs.Stores.{sets-append}
 
@@ -48,3 +48,15 @@ module _ {A : Type 0} where
   -- so is one element
   pub over-one : (new old : List A) (x : A) → length new < length old → set (over new old) (length new) x ≡ over (new ++ (x ∷ [])) old
   over-one new old x h = over-more new old (x ∷ []) (omega arith)
+
+  -- so is a part that was lent and put back
+  pub over-part : (new old more : List A) (n : ℕ) → n ≡ length more
+      → take (length new) (over new old) ++ (more ++ drop n (drop (length new) (over new old))) ≡ over (new ++ more) old
+  unfolding over
+  over-part new old more n e =
+      rw (take-append-seam, drop-append-seam, drop-drop, length-append, e) (sym (append-assoc new more _))
+
+  -- what stands in it at a place of the last run
+  pub over-last : (new old more : List A) (k : ℕ) (d : A) → k < length more → getD (over (new ++ more) old) (length new + k) d ≡ getD more k d
+  unfolding over
+  over-last new old more k d h = rw (append-assoc, getD-append-add) (List·getD-append more _ d k h)
