@@ -51,7 +51,7 @@ longest-is priority rows =
 
 module _ (rows : List Task) (i : ℕ) (t : Task) (at : Place rows i t) where
   -- what is asked of row i
-  asked-is : askedAt (map askedOf rows) i ≡ askedOf t
+  pub asked-is : askedAt (map askedOf rows) i ≡ askedOf t
   asked-is = place-get askedOf askedNothing rows i t at
 
   -- its numbers first, those of the higher rows behind

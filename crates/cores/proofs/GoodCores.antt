@@ -1,14 +1,13 @@
 -- The rows of a core of a table without a fault are good, and have at most 1,024 parts. Assumes nothing.
 use Prim.Native.Nat.{ℕ, _+_, _≤_}
 use native.Mathlib.Omega.{arith}
-use mathlib.Core.Path.{_≡_, refl, ap, _∙_}
+use mathlib.Core.Path.{_≡_, refl, sym, ap, _∙_}
 use mathlib.Core.List.{List, [], _∷_}
 use lib.Dec.{eqb}
 use lib.ListN.{length, length-append}
 use Rattle.lists.specs.Lists.{total}
 use Rattle.lists.proofs.Walks.{keep-total}
 use Rattle.model.specs.Task.{Task, parts}
-use Rattle.model.specs.Rows.{GoodCore}
 use Rattle.model.specs.Bounds.{onCore}
 use Rattle.table.specs.declared.Table.{Table}
 use Rattle.table.specs.Verdicts.{codeOf}
@@ -16,6 +15,9 @@ use Rattle.table.specs.Memory.{allTimes, tasksOf}
 use Rattle.table.specs.Faults.{faultOf}
 use Rattle.table.proofs.Ahead.{good-ahead}
 use Rattle.table.proofs.GoodCore.{good-core}
+use Rattle.cores.specs.Cores.{coreOf, tasksIn}
+use Rattle.cores.specs.Promises.{IsCore}
+use Rattle.cores.proofs.AskedRows.{tasks-in}
 
 -- tasks have as many times as parts
 pub times-count : (ts : List Task) → length (allTimes ts) ≡ total parts ts
@@ -28,17 +30,14 @@ core-parts : (core : ℕ) (ts : List Task) → total parts (onCore core ts) ≤ 
 unfolding onCore
 core-parts core ts = keep-total parts (λ t. eqb (t .core) core) ts
 
--- the rows of a core of a good table: good ones, whose parts fit in a table
-pub record CoreOfGood (rows : List Task) : Type 0 where
-  pub good : GoodCore rows
-  pub fits : total parts rows ≤ 1024
-
--- so are those of each core of a table without a fault
+-- each core of a table without a fault, as one value
 pub core-of-good : (t : Table) → length (t .rows) ≡ 64 → length (t .times) ≡ 1024 → codeOf (faultOf t) ≡ 0
-    → (core : ℕ) → CoreOfGood (onCore core (tasksOf t))
+    → (core : ℕ) → IsCore (coreOf (onCore core (tasksOf t)))
 core-of-good t rows times e core =
     let room : 0 + length (allTimes (tasksOf t)) ≤ 1024 = good-ahead t rows times e .room in
+    let same : tasksIn (coreOf (onCore core (tasksOf t))) ≡ onCore core (tasksOf t) = tasks-in (onCore core (tasksOf t)) in
     record {
-      good = good-core t rows times e core;
-      fits = omega (arith, core-parts core (tasksOf t), times-count (tasksOf t));
+      good = rw same (good-core t rows times e core);
+      fits = rw same (omega (arith, core-parts core (tasksOf t), times-count (tasksOf t)));
+      is = ap coreOf (sym same);
     }

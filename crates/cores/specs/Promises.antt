@@ -1,15 +1,18 @@
 -- Inner: what the functions on what is asked of rows promise, in those numbers.
-use Prim.Native.Nat.{ℕ}
+use Prim.Native.Nat.{ℕ, _≤_}
 use mathlib.Core.Path.{_≡_}
 use mathlib.Core.Bool.{Bool}
 use mathlib.Core.List.{List, [], _∷_, map}
 use lib.ListN.{length, getD}
 use lib.Dec.{eqb, ltb}
-use Rattle.lists.specs.Lists.{pick, keep, each, over, largest}
+use Rattle.lists.specs.Lists.{pick, keep, each, over, largest, total}
+use Rattle.model.specs.Task.{parts}
+use Rattle.model.specs.Rows.{GoodCore}
 use Rattle.cores.specs.declared.Asked.{Asked}
+use Rattle.cores.specs.declared.Core.{Core}
 use Rattle.cores.specs.declared.Which.{Which}
 use Rattle.cores.specs.declared.Which.the-variants.{Above, Preemptive}
-use Rattle.cores.specs.Cores.{askedNothing}
+use Rattle.cores.specs.Cores.{askedNothing, coreOf, tasksIn}
 
 -- a sum is over this row
 unfoldable pub isWanted : Which → Asked → Bool
@@ -44,3 +47,9 @@ blockingIn rows i = pick (eqb (askedAt rows i .kind) 1) (longestBelow (askedAt r
 pub record PutInFront (numbers old new : List ℕ) (end : ℕ) : Type 0 where
   pub room : new ≡ over numbers old
   pub ends : end ≡ length numbers
+
+-- a core of a good table as one value
+pub record IsCore (c : Core) : Type 0 where
+  pub good : GoodCore (tasksIn c)
+  pub fits : total parts (tasksIn c) ≤ 1024
+  pub is : c ≡ coreOf (tasksIn c)
