@@ -1,5 +1,6 @@
 pub mod Said
 pub mod Given
-pub mod Columned
-pub mod Loaded
 pub mod Tabled
+pub mod Tops
+pub mod Lengths
+pub mod Cored

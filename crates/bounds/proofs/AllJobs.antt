@@ -1,140 +1,181 @@
--- A row, job by job: before the first job the bounds are 0, and after the last they are document 01's.
-use Prim.Native.Nat.{ℕ, suc, _+_, _*_, _≤_, _<_, max}
-use mathlib.Core.Path.{_≡_, sym, ap, _∙_}
-use mathlib.Core.Bool.{Bool}
-use mathlib.Core.List.{List}
-use native.Mathlib.Nat.{le-antisymm}
+-- A row, job by job: each job stands where the one before it ended, and after the last the bounds are document 01's.
+use Prim.Native.Nat.{ℕ, zero, suc, _+_, _*_, _≤_, _<_, max}
+use mathlib.Core.Path.{_≡_, refl, sym, ap, ap₂, _∙_}
+use mathlib.Core.List.{List, _∷_}
+use native.Mathlib.Nat.{zero-mul, suc-mul}
 use native.Mathlib.Omega.{arith}
-use lib.ListN.{length, getD, drop, replicate, getD-replicate}
-use Rattle.lists.specs.Lists.{listed}
-use Rattle.lists.proofs.Listed.{listed-is}
+use lib.ListN.{length, getD, drop, getD-replicate, length-replicate}
+use Rattle.lists.specs.Lists.{_∈_, keep, each, listed}
+use Rattle.lists.proofs.Listed.{listed-is, listed-at, listed-length}
+use Rattle.model.specs.declared.Found.the-variants.{At}
 use Rattle.model.specs.Task.{Task, cost, parts}
+use Rattle.model.specs.Rows.{GoodCore}
 use Rattle.model.specs.Least.{value, maxBelow}
-use Rattle.model.specs.Bounds.{before, blocking, jobs, response, bound, rowBounds}
-use Rattle.model.proofs.Rounding.{before-more, before-least}
+use Rattle.model.specs.Bounds.{up, preemptive, cooperative, before, higher, blocking, window, jobs, response, bound, rowBounds}
+use Rattle.model.proofs.Rounding.{before-is, before-more, before-least}
 use Rattle.model.proofs.Rows.{period-pos}
 use Rattle.model.proofs.Exists.{window-most, inside}
-use Rattle.bounds.specs.Gathered.{Gathered}
-use Rattle.bounds.specs.Steps.{Warm, AtJob, Raised}
-use Rattle.bounds.proofs.Asked.{own-period, own-cost}
+use Rattle.bounds.specs.declared.Own.{Own}
+use Rattle.bounds.specs.Loads.{loads}
+use Rattle.bounds.specs.Promises.{Warm, AtJob, OwnRow, jobAt, boundsAfter, boundsIn}
+use Rattle.bounds.proofs.Jobs.{job-warm, response-is}
 
--- the walk before job j: where it stands, and the bounds over the jobs before it
-pub record JobsDone (rows : List Task) (t : Task) (L j base from : ℕ) (new : List ℕ) : Type 0 where
-  pub few : j ≤ before t L
-  pub warm : Warm rows t base from
-  pub each : (q : ℕ) → q < parts t → getD new q 0 ≡ maxBelow (response rows t q) j
+-- as many bounds as parts, after each job
+pub bounds-length : (own-first pre : List ℕ) (own : Own) (times : List ℕ) (j : ℕ)
+    → length (boundsAfter own-first pre own times j) ≡ length times
+unfolding boundsAfter
+bounds-length own-first pre own times zero = length-replicate (length times) 0
+bounds-length own-first pre own times (suc j) = listed-length _ (length times)
 
-module _ (rows : List Task) (t : Task) (ps cs pp pc : List ℕ) (coop : Bool) (blocked L : ℕ) (times : List ℕ)
-    (g : Gathered rows t ps cs pp pc coop blocked L times) where
-  -- the row has a period
-  period : 0 < t .period
-  period = period-pos rows (g .demanded .core) t (g .demanded .row)
+module _ {own-first pre : List ℕ} {own : Own} {times : List ℕ} (g : OwnRow own-first pre own times) where
+  open OwnRow g using (rows, t, core, row)
 
-  -- and a time for each part
-  count : length times ≡ parts t
-  unfolding parts
-  count = ap length (g .timed)
+  -- the row's own numbers stand first
+  own-period : getD own-first 0 0 ≡ t .period
+  unfolding each
+  own-period = ap (λ (xs : List ℕ). getD xs 0 0) (g .loaded)
 
-  -- its window is at most the limit
-  pub length-most : L ≤ 16777215
-  length-most = window-most rows (g .demanded .core) t (g .demanded .row) L (g .windowed)
+  own-cost : getD own-first 1 0 ≡ cost t
+  unfolding each
+  own-cost = ap (λ (xs : List ℕ). getD xs 1 0) (g .loaded)
 
-  -- its period, as the code reads it, is in range
-  pub period-most : getD ps 0 0 ≤ 16777215
-  period-most = rw (own-period rows t ps cs blocked (g .demanded)) (g .demanded .core .good t (g .demanded .row) .period .most)
+  -- and the higher rows' behind them
+  highers-are : drop 2 own-first ≡ loads (higher rows t)
+  unfolding each
+  highers-are = ap (drop 2) (g .loaded)
 
-  -- and not 0
-  pub period-some : 0 < getD ps 0 0
-  period-some = rw (own-period rows t ps cs blocked (g .demanded)) period
+  -- so the slice is not empty
+  pub has-own : 1 < length own-first
+  unfolding each
+  has-own = omega (arith, ap length (g .loaded))
+
+  -- the row's period is in range
+  pub period-range : (0 < getD own-first 0 0) × (getD own-first 0 0 ≤ 16777215)
+  period-range = rw own-period (period-pos rows core t row, core .good t row .period .most)
+
+  -- so is its window
+  pub window-small : own .window ≤ 16777215
+  window-small = window-most rows core t row (own .window) (g .windowed)
 
   -- so many jobs are looked at
-  jobs-are : jobs rows t ≡ before t L
-  unfolding jobs value
-  jobs-are = ap (λ f. before t (value f)) (g .windowed)
+  count-is : up (own .window) (getD own-first 0 0) ≡ before t (own .window)
+  count-is = rw own-period (sym (before-is t (own .window)))
 
-  -- the walk begins
-  pub none-done : JobsDone rows t L 0 blocked blocked (replicate (length times) 0)
-  unfolding maxBelow
-  none-done =
+  -- before job j stand the blocking and the jobs before it
+  base-is : (j : ℕ) → jobAt own-first pre own times j .base ≡ blocking rows t + j * cost t
+  unfolding jobAt
+  base-is zero = omega (arith, g .blocks, zero-mul (cost t))
+  base-is (suc j) = omega (arith, base-is j, own-cost, suc-mul j (cost t))
+
+  -- and it is released after as many periods
+  release-is : (j : ℕ) → jobAt own-first pre own times j .release ≡ j * t .period
+  unfolding jobAt
+  release-is zero = sym (zero-mul (t .period))
+  release-is (suc j) = omega (arith, release-is j, own-period, suc-mul j (t .period))
+
+  -- job j stands before its first part
+  abbrev standing : (j : ℕ) → j < before t (own .window)
+      → Warm rows t (jobAt own-first pre own times j .base) (jobAt own-first pre own times j .from)
+      → AtJob (drop 2 own-first) pre (own .cooperative) (jobAt own-first pre own times j) times
+  standing j h w =
       record {
-        few = omega arith;
-        warm = record { above = omega arith; rises = omega arith; low = λ y a b. omega arith };
-        each = λ q h. getD-replicate (length times) q 0 0 (omega (arith, count));
+        rows = rows;
+        t = t;
+        L = own .window;
+        j = j;
+        seen =
+            record {
+              core = core;
+              row = row;
+              windowed = g .windowed;
+              highers = highers-are;
+              preemptives = g .preemptives;
+              kind = g .kind;
+            };
+        inside = h;
+        done = base-is j;
+        warm = w;
+        released = release-is j;
+        timed = g .timed;
       }
 
-  module _ (j base from release : ℕ) (new : List ℕ) (s : JobsDone rows t L j base from new)
-      (done : base ≡ blocked + j * getD cs 0 0) (released : release ≡ j * getD ps 0 0) where
-    -- what is before the job is the blocking and the jobs before it
-    pub own-done : base ≡ blocking rows t + j * cost t
-    own-done =
-        omega (arith, done, g .demanded .blocks, ap (λ (n : ℕ). j * n) (own-cost rows t ps cs blocked (g .demanded)))
+  -- its search begins where it may
+  warm-at : (j : ℕ) → j ≤ before t (own .window)
+      → Warm rows t (jobAt own-first pre own times j .base) (jobAt own-first pre own times j .from)
+  unfolding jobAt
+  warm-at zero h = record { above = omega arith; rises = omega arith; low = λ y a b. omega arith }
+  warm-at (suc j) h = rw own-cost (job-warm (standing j (omega arith) (warm-at j (omega arith))))
 
-    -- and its release comes after as many periods
-    pub own-release : release ≡ j * t .period
-    own-release = omega (arith, released, ap (λ (n : ℕ). j * n) (own-period rows t ps cs blocked (g .demanded)))
+  module _ (j : ℕ) (h : j < up (own .window) (getD own-first 0 0)) where
+    -- what the code stands before
+    pub at-job : AtJob (drop 2 own-first) pre (own .cooperative) (jobAt own-first pre own times j) times
+    at-job = standing j (omega (arith, count-is)) (warm-at j (omega (arith, count-is)))
 
-    module _ (more : release < L) where
-      -- a job that is released in the window is looked at
-      pub looked-at : j < before t L
-      looked-at = before-more t period j L (omega (arith, own-release))
+    -- the job's work fits in the window
+    pub base-small : jobAt own-first pre own times j .base + getD own-first 1 0 ≤ 16777215
+    base-small =
+        omega (
+          arith,
+          base-is j,
+          own-cost,
+          inside rows core t row (own .window) (g .windowed) j (omega (arith, count-is)),
+          window-small,
+        )
 
-      -- job j stands before its first part
-      abbrev pub at-job : (hp hc : List ℕ) → hp ≡ drop 1 ps → hc ≡ drop 1 cs → AtJob hp hc pp pc coop base from release times
-      at-job hp hc p c =
-          record {
-            rows = rows;
-            t = t;
-            L = L;
-            j = j;
-            seen =
-                record {
-                  core = g .demanded .core;
-                  row = g .demanded .row;
-                  windowed = g .windowed;
-                  periods = p ∙ ap (drop 1) (g .demanded .periods);
-                  costs = c ∙ ap (drop 1) (g .demanded .costs);
-                  prePeriods = g .prePeriods;
-                  preCosts = g .preCosts;
-                  kind = g .kind;
-                };
-            inside = looked-at;
-            done = own-done;
-            warm = s .warm;
-            released = own-release;
-            timed = g .timed;
-          }
+  -- a job that is released in the window is looked at
+  pub looked-at : (j : ℕ) → jobAt own-first pre own times j .release < own .window → j < up (own .window) (getD own-first 0 0)
+  looked-at j h =
+      omega (arith, count-is, before-more t (period-pos rows core t row) j (own .window) (omega (arith, release-is j)))
 
-      -- its work fits in the window
-      pub base-most : base + getD cs 0 0 ≤ 16777215
-      base-most =
-          omega (
-            arith,
-            own-done,
-            own-cost rows t ps cs blocked (g .demanded),
-            inside rows (g .demanded .core) t (g .demanded .row) L (g .windowed) j looked-at,
-            length-most,
-          )
+  -- and no other
+  pub all-looked-at : (j : ℕ) → own .window ≤ jobAt own-first pre own times j .release → up (own .window) (getD own-first 0 0) ≤ j
+  all-looked-at j h =
+      omega (arith, count-is, before-least t (period-pos rows core t row) j (own .window) (omega (arith, release-is j)))
 
-      -- and the walk goes on
-      pub one-more : (next : ℕ) (newer : List ℕ) → Raised rows t j (base + cost t) new newer next
-          → JobsDone rows t L (suc j) (base + getD cs 0 0) next newer
-      unfolding maxBelow
-      one-more next newer r =
-          record {
-            few = looked-at;
-            warm = rw (own-cost rows t ps cs blocked (g .demanded)) (r .warm);
-            each = λ q h. r .each q h ∙ ap (λ (n : ℕ). max n (response rows t q j)) (s .each q h);
-          }
+  -- the bounds so far are the largest responses
+  largest-so-far : (j : ℕ) → j ≤ up (own .window) (getD own-first 0 0) → (r : ℕ) → r < length times
+      → getD (boundsAfter own-first pre own times j) r 0 ≡ maxBelow (response rows t r) j
+  unfolding boundsAfter maxBelow
+  largest-so-far zero h r k = getD-replicate (length times) r 0 0 k
+  largest-so-far (suc j) h r k =
+      listed-at _ (length times) r 0 k
+      ∙ ap₂ max (largest-so-far j (omega arith) r k)
+      (response-is (standing j (omega (arith, count-is)) (warm-at j (omega (arith, count-is)))) r k)
 
-    -- after the last job the bounds are there
-    pub all-done : L ≤ release → length new ≡ length times → new ≡ rowBounds rows t
-    unfolding rowBounds bound
-    all-done past same =
-        listed-is (bound rows t) 0 new (λ q h. s .each q (omega (arith, count)) ∙ ap (maxBelow (response rows t q)) all ∙ is-bound q)
-        ∙ ap (listed (bound rows t)) (same ∙ count)
-      where
-        all : j ≡ before t L
-        all = le-antisymm (s .few) (before-least t period j L (omega (arith, own-release)))
+  -- after the last job they are the row's
+  pub bounds-own : boundsIn own-first pre own times ≡ rowBounds rows t
+  unfolding boundsIn rowBounds bound jobs value parts
+  bounds-own =
+      let n : ℕ = up (own .window) (getD own-first 0 0) in
+      let same = bounds-length own-first pre own times n in
+      listed-is (bound rows t) 0 (boundsAfter own-first pre own times n)
+      (λ r k. largest-so-far n (omega arith) r (omega (arith, same)) ∙ ap (maxBelow (response rows t r)) all)
+      ∙ ap (listed (bound rows t)) (same ∙ ap length (g .timed))
+    where
+      all : up (own .window) (getD own-first 0 0) ≡ jobs rows t
+      all = count-is ∙ ap (λ f. before t (value f)) (sym (g .windowed))
 
-        is-bound : (q : ℕ) → maxBelow (response rows t q) (before t L) ≡ bound rows t q
-        is-bound q = ap (maxBelow (response rows t q)) (sym jobs-are)
+-- a row of a core with its window: what `row_bounds` asks for
+abbrev pub own-row : (rows : List Task) → GoodCore rows → (t : Task) → t ∈ rows → (L : ℕ) → window rows t ≡ At L
+    → OwnRow (loads (t ∷ higher rows t)) (loads (keep preemptive rows))
+    (record { cooperative = cooperative t; blocking = blocking rows t; window = L }) (t .times)
+own-row rows core t m L w =
+    record {
+      rows = rows;
+      t = t;
+      core = core;
+      row = m;
+      loaded = refl;
+      preemptives = refl;
+      kind = refl;
+      blocks = refl;
+      windowed = w;
+      timed = refl;
+    }
+
+-- and what it leaves are document 01's bounds
+pub bounds-are : (rows : List Task) → GoodCore rows → (t : Task) → t ∈ rows → (L : ℕ) → window rows t ≡ At L
+    → boundsIn (loads (t ∷ higher rows t)) (loads (keep preemptive rows))
+    (record { cooperative = cooperative t; blocking = blocking rows t; window = L }) (t .times)
+    ≡ rowBounds rows t
+bounds-are rows core t m L w = bounds-own (own-row rows core t m L w)

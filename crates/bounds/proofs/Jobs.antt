@@ -1,116 +1,101 @@
--- One job, part by part: each part's bound is raised to the job's response, and the next part stands where this one ended.
-use Prim.Native.Nat.{ℕ, _+_, _-_, _≤_, _<_, max}
-use mathlib.Core.Path.{_≡_, refl, sym, ap, subst, _∙_}
-use mathlib.Core.Bool.{Bool}
+-- One job, part by part: each part's end is document 01's, and the next part stands where this one ended.
+use Prim.Native.Nat.{ℕ, zero, suc, _+_, _-_, _≤_, _<_}
+use mathlib.Core.Path.{_≡_, sym, ap, subst, _∙_}
+use mathlib.Core.Bool.{Bool, true, false}
 use mathlib.Core.List.{List}
-use mathlib.Core.Logic.{⊎-elim}
-use native.Mathlib.Numerals.{add-one}
 use native.Mathlib.Omega.{arith}
-use lib.ListN.{length, getD, set}
-use lib.Seq.{getD-set-same, getD-set-other}
-use Rattle.lists.proofs.Tests.{either}
+use lib.ListN.{length, getD, take}
+use Rattle.lists.specs.Lists.{sum}
+use Rattle.lists.proofs.Sums.{sum-suc}
 use Rattle.model.specs.declared.Found.the-variants.{At}
-use Rattle.model.specs.Task.{Task, cost, parts, part, partsBefore}
+use Rattle.model.specs.Task.{cost, parts, part, partsBefore}
 use Rattle.model.specs.Least.{value}
-use Rattle.model.specs.Bounds.{response}
-use Rattle.model.proofs.Parts.{parts-zero, parts-suc, parts-all}
+use Rattle.model.specs.Bounds.{finish, response}
+use Rattle.model.proofs.Parts.{parts-zero, parts-all}
 use Rattle.model.proofs.Exists.{window-most, finish-range}
-use Rattle.bounds.specs.declared.PartEnd.{PartEnd}
-use Rattle.bounds.specs.Steps.{Warm, AtJob, AtPart, Ended, Raised}
+use Rattle.bounds.specs.declared.Job.{Job}
+use Rattle.bounds.specs.Promises.{Warm, AtJob, AtPart, endOfPart, baseAt, fromAt, endAt, jobNext}
+use Rattle.bounds.proofs.Walk.{IsEnd, preemptive-ends}
+use Rattle.bounds.proofs.Begun.{cooperative-ends}
 
--- the walk before part r: what is before it, where its search begins, the parts whose bounds are raised and the others
-pub record SoFar (rows : List Task) (t : Task) (j base done at r : ℕ) (old new : List ℕ) : Type 0 where
-  pub sum : done ≡ base + partsBefore t r
-  pub warm : Warm rows t done at
-  pub raised : (q : ℕ) → q < r → getD new q 0 ≡ max (getD old q 0) (response rows t q j)
-  pub rest : (q : ℕ) → r ≤ q → getD new q 0 ≡ getD old q 0
+-- a part of either kind ends where its searches say
+part-ends : {above pre : List ℕ} {coop : Bool} {base from time : ℕ} (a : AtPart above pre coop base from time)
+    → IsEnd (a .rows) (a .t) (a .j) (a .r) (base + time) (endOfPart above pre coop base from time)
+part-ends {coop = true} a = cooperative-ends a
+part-ends {coop = false} a = preemptive-ends a
 
-module _ (hp hc pp pc : List ℕ) (coop : Bool) (base from release : ℕ) (times : List ℕ)
-    (a : AtJob hp hc pp pc coop base from release times) where
-  -- the walk begins
-  pub so-far : (old : List ℕ) → SoFar (a .rows) (a .t) (a .j) base base from 0 old old
-  so-far old =
-      record {
-        sum = omega (arith, parts-zero (a .t));
-        warm = a .warm;
-        raised = λ q h. absurd (omega arith);
-        rest = λ q h. refl;
-      }
+module _ {above pre : List ℕ} {coop : Bool} {job : Job} {times : List ℕ} (a : AtJob above pre coop job times) where
+  open AtJob a using (rows, t, L, j, seen)
 
   -- there is a time for each part
-  pub count : length times ≡ parts (a .t)
+  pub count : length times ≡ parts t
   unfolding parts
   count = ap length (a .timed)
 
-  -- which is the part's
-  pub time-is : (r : ℕ) → getD times r 0 ≡ part (a .t) r
+  -- the parts before part r take this
+  sum-is : (r : ℕ) → sum (take r times) ≡ partsBefore t r
+  unfolding partsBefore
+  sum-is r = ap (λ (xs : List ℕ). sum (take r xs)) (a .timed)
+
+  -- and part r this
+  time-is : (r : ℕ) → getD times r 0 ≡ part t r
   unfolding part
   time-is r = ap (λ (xs : List ℕ). getD xs r 0) (a .timed)
 
-  module _ (done at r : ℕ) (old new : List ℕ) (s : SoFar (a .rows) (a .t) (a .j) base done at r old new)
-      (h : r < length times) where
-    -- the job stands before part r
-    abbrev pub standing : AtPart hp hc pp pc coop done at (getD times r 0)
-    standing =
-        record {
-          rows = a .rows;
-          t = a .t;
-          L = a .L;
-          j = a .j;
-          r = r;
-          seen = a .seen;
-          inside = a .inside;
-          within = omega (arith, count);
-          done = omega (arith, s .sum, a .done);
-          warm = s .warm;
-          timed = time-is r;
-        }
-
-    module _ (p : PartEnd) (e : Ended (a .rows) (a .t) (a .j) r (done + getD times r 0) p) where
-      -- the part ends after the release and within the limit
-      pub end-range : (release ≤ p .end) × (p .end ≤ 16777215)
-      end-range =
-          let range =
-          finish-range (a .rows) (a .seen .core) (a .t) (a .seen .row) (a .L) (a .seen .windowed) r (a .j)
-          (omega (arith, count)) (a .inside) in
-          let found : At (p .end) ≡ At (range .f) = sym (e .ends) ∙ range .ends in
-          let same : p .end ≡ range .f = cc in (
-            omega (arith, a .released, range .late),
-            omega (arith, range .within, window-most (a .rows) (a .seen .core) (a .t) (a .seen .row) (a .L) (a .seen .windowed)),
-          )
-
-      -- its response is what the code works out
-      response-is : p .end - release ≡ response (a .rows) (a .t) r (a .j)
-      unfolding response value
-      response-is = omega (arith, a .released, ap value (e .ends))
-
-      -- and the walk goes on
-      pub so-far-next : (v : ℕ) → v ≡ max (getD new r 0) (p .end - release) → r < length new
-          → SoFar (a .rows) (a .t) (a .j) base (done + getD times r 0) (p .next) (r + 1) old (set new r v)
-      so-far-next v is k =
-          rw (add-one r)
-          record {
-            sum = omega (arith, s .sum, parts-suc (a .t) r, time-is r);
-            warm = e .warm;
-            raised = λ q l. ⊎-elim (λ below. earlier q below) (λ notBelow. here q (omega arith)) (either q r);
-            rest = λ q l. getD-set-other new r q v 0 (λ z. omega arith) ∙ s .rest q (omega arith);
-          }
-        where
-          earlier : (q : ℕ) → q < r → getD (set new r v) q 0 ≡ max (getD old q 0) (response (a .rows) (a .t) q (a .j))
-          earlier q l = getD-set-other new r q v 0 (λ z. omega arith) ∙ s .raised q l
-
-          here : (q : ℕ) → r ≡ q → getD (set new r v) q 0 ≡ max (getD old q 0) (response (a .rows) (a .t) q (a .j))
-          here q z =
-              subst (λ (k : ℕ). getD (set new r v) k 0 ≡ max (getD old k 0) (response (a .rows) (a .t) k (a .j))) z
-              (getD-set-same new r v 0 k ∙ omega (arith, is, response-is, s .rest r (omega arith)))
-
-  -- after the last part all are raised, and the next job stands where this one ended
-  pub job-raised : (done at r : ℕ) (old new : List ℕ) → SoFar (a .rows) (a .t) (a .j) base done at r old new
-      → r ≡ length times → Raised (a .rows) (a .t) (a .j) (base + cost (a .t)) old new at
-  job-raised done at r old new s e =
+  -- the job stands before part r
+  abbrev standing : (r : ℕ) → r < length times → Warm rows t (baseAt job times r) (fromAt above pre coop job times r)
+      → AtPart above pre coop (baseAt job times r) (fromAt above pre coop job times r) (getD times r 0)
+  standing r h w =
       record {
-        each = λ q h. s .raised q (omega (arith, count));
-        warm =
-            subst (λ (b : ℕ). Warm (a .rows) (a .t) b at)
-            (omega (arith, s .sum, parts-all (a .t) r (omega (arith, count)))) (s .warm);
+        rows = rows;
+        t = t;
+        L = L;
+        j = j;
+        r = r;
+        seen = seen;
+        inside = a .inside;
+        within = omega (arith, count);
+        done = omega (arith, sum-is r, a .done);
+        warm = w;
+        timed = time-is r;
       }
+
+  -- its search begins where it may
+  part-warm : (r : ℕ) → r ≤ length times → Warm rows t (baseAt job times r) (fromAt above pre coop job times r)
+  unfolding fromAt
+  part-warm zero h =
+      subst (λ (b : ℕ). Warm rows t b (job .from)) (omega (arith, sum-is 0, parts-zero t)) (a .warm)
+  part-warm (suc r) h =
+      subst (λ (b : ℕ). Warm rows t b (fromAt above pre coop job times (suc r))) (omega (arith, sum-suc times r))
+      (part-ends (standing r (omega arith) (part-warm r (omega arith))) .warm)
+
+  -- so it does for the next job
+  pub job-warm : Warm rows t (job .base + cost t) (jobNext above pre coop job times)
+  job-warm =
+      subst (λ (b : ℕ). Warm rows t b (jobNext above pre coop job times))
+      (omega (arith, sum-is (length times), parts-all t (length times) (omega (arith, count))))
+      (part-warm (length times) (omega arith))
+
+  module _ (r : ℕ) (h : r < length times) where
+    -- what the code stands before
+    pub at-part : AtPart above pre coop (baseAt job times r) (fromAt above pre coop job times r) (getD times r 0)
+    at-part = standing r h (part-warm r (omega arith))
+
+    -- the part's end
+    part-ended : finish rows t r j ≡ At (endAt above pre coop job times r)
+    part-ended = part-ends (standing r h (part-warm r (omega arith))) .ends
+
+    -- lies after the release and within the limit
+    pub end-range : (job .release ≤ endAt above pre coop job times r) × (endAt above pre coop job times r ≤ 16777215)
+    end-range =
+        let range = finish-range rows (seen .core) t (seen .row) L (seen .windowed) r j (omega (arith, count)) (a .inside) in
+        let found : At (endAt above pre coop job times r) ≡ At (range .f) = sym part-ended ∙ range .ends in
+        let same : endAt above pre coop job times r ≡ range .f = cc in (
+          omega (arith, a .released, range .late),
+          omega (arith, range .within, window-most rows (seen .core) t (seen .row) L (seen .windowed)),
+        )
+
+    -- and its response is what the code works out
+    pub response-is : endAt above pre coop job times r - job .release ≡ response rows t r j
+    unfolding response value
+    response-is = omega (arith, a .released, ap value part-ended)

@@ -1,65 +1,149 @@
--- The work of rows that stand in two slices: taken row by row, never falling, bounded, and the work of the rows they stand for.
-use Prim.Native.Nat.{ℕ, suc, _+_, _-_, _*_, _/_, _≤_, _<_}
-use mathlib.Core.Path.{_≡_}
-use mathlib.Core.List.{List, [], _∷_}
-use native.Mathlib.Nat.{le-refl, add-le-add, mul-le-mul, mul-le-mul-right, suc-mul}
+-- The work of rows that stand side by side: taken row by row, never falling, bounded, and the work of the rows they stand for.
+use Prim.Native.Nat.{ℕ, zero, suc, _+_, _-_, _*_, _/_, _≤_, _<_}
+use mathlib.Core.Path.{_≡_, refl, ap}
+use mathlib.Core.List.{List, [], _∷_, List·Memᴰ·head, List·Memᴰ·tail, List·Memᴰ·cases-cons}
+use mathlib.Core.Bool.{Bool}
+use mathlib.Core.Logic.{⊎-elim}
+use native.Mathlib.Nat.{le-refl, le-trans, add-le-add, mul-le-mul, mul-le-mul-right, suc-mul, le-div-iff-mul-le}
 use native.Mathlib.Numerals.{add-one}
 use native.Mathlib.Omega.{arith}
 use lib.ListN.{length, getD, drop, drop-of-length-le}
-use lib.Seq.{drop-cons}
-use Rattle.model.specs.Bounds.{up}
-use Rattle.model.specs.Least.{Mono}
-use Rattle.model.proofs.Rounding.{up-is, up-mono, up-small}
-use Rattle.bounds.specs.Slices.{Slices, workAt, side}
+use lib.Dec.{ltb}
+use borrow.Author.Tests.{le-ltb}
+use Rattle.lists.specs.Lists.{_∈_, keep, each, total}
+use Rattle.lists.proofs.Keep.{kept, keep-length, keep-fewer}
+use Rattle.lists.proofs.Tests.{either}
+use Rattle.model.specs.Task.{Task, cost}
+use Rattle.model.specs.Rows.{GoodTask, GoodCore}
+use Rattle.model.specs.Bounds.{up, before, higher}
+use Rattle.model.proofs.Climb.{Mono}
+use Rattle.model.proofs.Rounding.{up-is, up-mono, up-small, before-is}
+use Rattle.model.proofs.Rows.{higher-in}
+use Rattle.model.proofs.Parts.{cost-most}
+use Rattle.bounds.specs.Loads.{loads, InRange, Summable, workAt, side}
 
-module _ (x : ℕ) where
-  -- the work from row i on is row i's, and that from row i + 1 on
-  work-row : (ts cs : List ℕ) (i : ℕ) → i < length ts → i < length cs
-      → workAt (drop i ts) (drop i cs) x
-      ≡ up x (getD ts i 0) * getD cs i 0 + workAt (drop (suc i) ts) (drop (suc i) cs) x
-  unfolding workAt
-  work-row ts cs i h k = rw (drop-cons ts i 0, drop-cons cs i 0)
+-- the row whose period stands at i: its cost stands behind it, and the other rows after that
+record RowAt (rows : List ℕ) (i x : ℕ) : Type 0 where
+  whole : suc i < length rows
+  period : 1 ≤ getD rows i 0
+  ranged : InRange (drop (suc (suc i)) rows)
+  worked : workAt (drop i rows) x ≡ up x (getD rows i 0) * getD rows (suc i) 0 + workAt (drop (suc (suc i)) rows) x
 
-  -- past the last row there is none
-  pub work-end : (ts cs : List ℕ) (i : ℕ) → length ts ≤ i → workAt (drop i ts) (drop i cs) x ≡ 0
-  unfolding workAt
-  work-end ts cs i h = rw (drop-of-length-le ts h)
-
-  -- a bound from the rows' ranges
-  work-le : (ts cs : List ℕ) (c : ℕ) → ((i : ℕ) → i < length ts → 1 ≤ getD ts i 0)
-      → ((i : ℕ) → i < length ts → getD cs i 0 ≤ c) → workAt ts cs x ≤ length ts * (x * c)
-  unfolding workAt
-  work-le [] cs c p q = omega arith
-  work-le (t ∷ ts) [] c p q = omega arith
-  work-le (t ∷ ts) (d ∷ cs) c p q =
-      let a : up x t * d ≤ x * c = mul-le-mul (up-small x t (p 0 (omega arith))) (q 0 (omega arith)) in
-      let b : workAt ts cs x ≤ length ts * (x * c) =
-      work-le ts cs c (λ i h. p (suc i) (omega arith)) (λ i h. q (suc i) (omega arith)) in
-      omega (arith, suc-mul (length ts) (x * c))
-
--- the work never falls
-workAt-mono : (ts cs : List ℕ) → Mono (workAt ts cs)
-unfolding workAt
-workAt-mono [] cs x y h = le-refl 0
-workAt-mono (t ∷ ts) [] x y h = le-refl 0
-workAt-mono (t ∷ ts) (c ∷ cs) x y h = add-le-add (mul-le-mul-right c (up-mono x y t h)) (workAt-mono ts cs x y h)
-
--- nor does a search's right side
-pub side-mono : (ts cs : List ℕ) (base : ℕ) → Mono (side ts cs base)
-side-mono ts cs base x y h = add-le-add (le-refl base) (workAt-mono ts cs x y h)
-
--- rows in range: their work fits in 61 bits
-pub work-fits : (ts cs : List ℕ) (x : ℕ) → Slices ts cs → x ≤ 16777215 → workAt ts cs x ≤ 1152921435887370240
-work-fits ts cs x r h =
-    let all : length ts * (x * 1073741760) ≤ 64 * (16777215 * 1073741760) =
-    mul-le-mul (r .few) (mul-le-mul h (le-refl 1073741760)) in
-    omega (arith, work-le x ts cs 1073741760 (r .period) (r .cost))
+-- there is one wherever rows in range go on
+row-at : (rows : List ℕ) (i x : ℕ) → i < length rows → InRange (drop i rows) → RowAt rows i x
+unfolding InRange workAt
+row-at [] i x h r = absurd (omega arith)
+row-at (t ∷ []) zero x h r = absurd r
+row-at (t ∷ c ∷ more) zero x h r = record { whole = omega arith; period = r .0; ranged = r .2; worked = refl }
+row-at (t ∷ rows) (suc i) x h r =
+    let p = row-at rows i x (omega arith) r in
+    record { whole = omega (arith, p .whole); period = p .period; ranged = p .ranged; worked = p .worked }
 
 -- one turn of a sum over the rows, as the code works it out
-pub work-turn : (ts cs : List ℕ) (x sum i : ℕ) → Slices ts cs → i < length ts
-    → sum + workAt (drop i ts) (drop i cs) x ≡ workAt ts cs x
-    → sum + (x + (getD ts i 0 - 1)) / getD ts i 0 * getD cs i 0 + workAt (drop (i + 1) ts) (drop (i + 1) cs) x
-    ≡ workAt ts cs x
-work-turn ts cs x sum i r h e =
-    let k : i < length cs = (let q : length ts ≡ length cs = r .same in omega arith) in
-    rw (add-one, ← up-is x (getD ts i 0)) (omega (arith, work-row x ts cs i h k))
+pub record Turn (rows : List ℕ) (x sum i : ℕ) : Type 0 where
+  pub whole : i + 1 < length rows
+  pub period : 1 ≤ getD rows i 0
+  pub ranged : InRange (drop (i + 2) rows)
+  pub same : sum + (x + (getD rows i 0 - 1)) / getD rows i 0 * getD rows (i + 1) 0 + workAt (drop (i + 2) rows) x ≡ workAt rows x
+
+-- the sum so far, with the work of the rows from i on, is the whole work: so it is after the turn
+pub work-turn : (rows : List ℕ) (x sum i : ℕ) → i < length rows → InRange (drop i rows)
+    → sum + workAt (drop i rows) x ≡ workAt rows x → Turn rows x sum i
+work-turn rows x sum i h r e =
+    let p = row-at rows i x h r in
+    let two : i + 2 ≡ suc (suc i) = omega arith in
+    record {
+      whole = omega (arith, p .whole);
+      period = p .period;
+      ranged = rw two (p .ranged);
+      same = rw (two, add-one, ← up-is x (getD rows i 0)) (omega (arith, p .worked));
+    }
+
+-- past the last row there is no work
+pub work-end : (rows : List ℕ) (x i : ℕ) → length rows ≤ i → workAt (drop i rows) x ≡ 0
+unfolding workAt
+work-end rows x i h = rw (drop-of-length-le rows h)
+
+-- a bound from the rows' ranges
+work-le : (rows : List ℕ) (x : ℕ) → InRange rows → workAt rows x ≤ length rows * (x * 1073741760)
+unfolding InRange workAt
+work-le [] x r = omega arith
+work-le (t ∷ []) x r = absurd r
+work-le (t ∷ c ∷ more) x r =
+    let one : up x t * c ≤ x * 1073741760 = mul-le-mul (up-small x t (r .0)) (r .1) in
+    omega (
+      arith,
+      work-le more x (r .2),
+      suc-mul (suc (length more)) (x * 1073741760),
+      suc-mul (length more) (x * 1073741760),
+    )
+
+-- rows in range: their work fits in 61 bits
+pub work-fits : (rows : List ℕ) (x : ℕ) → Summable rows → x ≤ 16777215 → workAt rows x ≤ 2305842871774740480
+work-fits rows x r h =
+    let all : length rows * (x * 1073741760) ≤ 128 * (16777215 * 1073741760) =
+    mul-le-mul (r .few) (mul-le-mul h (le-refl 1073741760)) in
+    omega (arith, work-le rows x (r .ranged))
+
+-- the work never falls
+work-rises : (rows : List ℕ) → Mono (workAt rows)
+unfolding workAt
+work-rises [] x y h = le-refl 0
+work-rises (t ∷ []) x y h = le-refl 0
+work-rises (t ∷ c ∷ more) x y h = add-le-add (mul-le-mul-right c (up-mono x y t h)) (work-rises more x y h)
+
+-- nor does a search's right side
+pub side-mono : (rows : List ℕ) (base : ℕ) → Mono (side rows base)
+side-mono rows base x y h = add-le-add (le-refl base) (work-rises rows x y h)
+
+-- the work of the slice is the work of the rows it stands for
+pub work-loads : (us : List Task) (x : ℕ) → workAt (loads us) x ≡ total (λ u. before u x * cost u) us
+unfolding workAt total each
+work-loads [] x = refl
+work-loads (u ∷ us) x = omega (arith, ap (λ (n : ℕ). n * cost u) (before-is u x), work-loads us x)
+
+-- two numbers for each row
+loads-length : (us : List Task) → length (loads us) ≡ 2 * length us
+unfolding each
+loads-length [] = refl
+loads-length (u ∷ us) = omega (arith, loads-length us)
+
+-- good rows are in range
+loads-ranged : (us : List Task) → ((u : Task) → u ∈ us → GoodTask u) → InRange (loads us)
+unfolding InRange each
+loads-ranged [] good = tt
+loads-ranged (u ∷ us) good =
+    let own : GoodTask u = good u (List·Memᴰ·head refl) in
+    (own .period .least, cost-most u own, loads-ranged us (λ v m. good v (List·Memᴰ·tail m)))
+
+-- few good rows can be summed
+pub summable-of : (us : List Task) → length us ≤ 64 → ((u : Task) → u ∈ us → GoodTask u) → Summable (loads us)
+summable-of us few good = record { few = omega (arith, loads-length us); ranged = loads-ranged us good }
+
+-- so can those kept of a core's rows
+pub summable-keep : (rows : List Task) → GoodCore rows → (p : Task → Bool) → Summable (loads (keep p rows))
+summable-keep rows core p =
+    summable-of (keep p rows) (le-trans (keep-length p rows) (core .few)) (λ u m. core .good u (kept p rows u m .0))
+
+-- and a row of a core with the higher rows
+pub summable-own : (rows : List Task) → GoodCore rows → (t : Task) → t ∈ rows → Summable (loads (t ∷ higher rows t))
+unfolding higher
+summable-own rows core t m =
+    summable-of (t ∷ higher rows t) few
+    (λ u n. ⊎-elim (λ e. rw e (core .good t m)) (λ k. core .good u (higher-in rows t u k .0)) (List·Memᴰ·cases-cons n))
+  where
+    few : suc (length (higher rows t)) ≤ 64
+    few =
+        le-trans
+        (keep-fewer (λ u. ltb (t .priority) (u .priority)) rows t m (le-ltb (t .priority) (t .priority) (le-refl _)))
+        (core .few)
+
+-- the first row's search begins at its C, which lies behind its period, and which the right side takes no lower
+pub own-begins : (rows : List ℕ) → Summable rows → 0 < length rows → (base : ℕ)
+    → (1 < length rows) × (getD rows 1 0 ≤ side rows base (getD rows 1 0))
+own-begins rows r h base =
+    let c : ℕ = getD rows 1 0 in
+    let p = row-at rows 0 c h (r .ranged) in
+    let some : 0 < c → 1 * c ≤ up c (getD rows 0 0) * c =
+    (λ k. mul-le-mul-right c (rw (up-is c (getD rows 0 0)) (le-div-iff-mul-le (p .period) .1 (omega (arith, p .period))))) in
+    (p .whole, ⊎-elim (λ k. omega (arith, p .worked, some k)) (λ k. omega arith) (either 0 c))

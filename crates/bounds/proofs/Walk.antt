@@ -1,157 +1,126 @@
 -- One part of one job: its searches begin where they may, all fits, and what they find is the part's end.
 use Prim.Native.Nat.{ℕ, suc, _+_, _*_, _≤_, _<_}
-use mathlib.Core.Path.{_≡_, sym, ap, subst, _∙_}
+use mathlib.Core.Path.{_≡_, sym, ap, _∙_}
 use mathlib.Core.Bool.{Bool, false}
 use mathlib.Core.List.{List}
 use native.Mathlib.Omega.{arith}
 use Rattle.lists.specs.Lists.{keep}
 use Rattle.model.specs.declared.Found.the-variants.{At}
 use Rattle.model.specs.Task.{Task, cost, partsBefore}
-use Rattle.model.specs.Least.{least, value, IsLeast}
-use Rattle.model.specs.Ranges.{PreemptiveRange}
-use Rattle.model.specs.Bounds.{limit, preemptive, cooperative, higher, preemptiveEnd}
+use Rattle.model.specs.Least.{value, IsLeast}
+use Rattle.model.proofs.Ranges.{PreemptiveRange}
+use Rattle.model.specs.Bounds.{limit, preemptive, cooperative, higher, preemptiveEnd, finish}
 use Rattle.model.proofs.Least.{least-at, least-same}
 use Rattle.model.proofs.Climb.{under-shift, under-least, least-under}
 use Rattle.model.proofs.Parts.{parts-suc, part-fits, part-pos}
 use Rattle.model.proofs.Blocking.{no-blocking}
 use Rattle.model.proofs.Demand.{work, work-mono}
-use Rattle.model.proofs.Exists.{window-most, inside, preemptive-range}
-use Rattle.model.proofs.Exists.{finish-preemptive}
-use Rattle.bounds.specs.Slices.{Slices, workAt, side, searched}
-use Rattle.bounds.specs.Steps.{Warm, Seen, AtPart, Ended}
-use Rattle.bounds.proofs.Stand.{work-lists, slices-keep}
+use Rattle.model.proofs.Exists.{window-most, inside, preemptive-range, finish-preemptive}
+use Rattle.bounds.specs.declared.PartEnd.{PartEnd}
+use Rattle.bounds.specs.Loads.{Summable, workAt, side, searched, solution}
+use Rattle.bounds.specs.Promises.{Warm, AtPart, endOfPart}
+use Rattle.bounds.proofs.Sides.{work-loads, summable-keep}
 
--- a search that finds y answers with it
-pub answers : (g : ℕ → ℕ) (from y e : ℕ) → least g from limit ≡ At y → e ≡ value (searched g from .found) → e ≡ y
-unfolding limit searched value
-answers g from y e l q = q ∙ ap value l
+-- a part's end, and where the next search may begin
+pub record IsEnd (rows : List Task) (t : Task) (j r after : ℕ) (p : PartEnd) : Type 0 where
+  pub ends : finish rows t r j ≡ At (p .end)
+  pub warm : Warm rows t after (p .next)
 
-module _ (rows : List Task) (t : Task) (L : ℕ) (hp hc pp pc : List ℕ) (coop : Bool) (seen : Seen rows t L hp hc pp pc coop)
-  where
-    -- the slices are in range
-    pub higher-slices : Slices hp hc
-    unfolding higher
-    higher-slices = rw (seen .periods, seen .costs) (slices-keep rows (seen .core) _)
+module _ {above pre : List ℕ} {coop : Bool} {base from time : ℕ} (a : AtPart above pre coop base from time) where
+  open AtPart a using (rows, t, L, j, r, seen)
 
-    pub preemptive-slices : Slices pp pc
-    preemptive-slices = rw (seen .prePeriods, seen .preCosts) (slices-keep rows (seen .core) preemptive)
+  -- the slices can be summed
+  pub highers-summed : Summable above
+  unfolding higher
+  highers-summed = rw (seen .highers) (summable-keep rows (seen .core) _)
 
-    -- their work is that of the rows
-    pub higher-work : (y : ℕ) → workAt hp hc y ≡ work (higher rows t) y
-    higher-work y = rw (seen .periods, seen .costs) (work-lists (higher rows t) y)
+  pub preemptives-summed : Summable pre
+  preemptives-summed = rw (seen .preemptives) (summable-keep rows (seen .core) preemptive)
 
-    pub preemptive-work : (y : ℕ) → workAt pp pc y ≡ work (keep preemptive rows) y
-    preemptive-work y = rw (seen .prePeriods, seen .preCosts) (work-lists (keep preemptive rows) y)
+  -- their work is that of the rows
+  higher-work : (y : ℕ) → workAt above y ≡ work (higher rows t) y
+  higher-work y = rw (seen .highers) (work-loads (higher rows t) y)
 
-module _ (hp hc pp pc : List ℕ) (coop : Bool) (base from time : ℕ) (a : AtPart hp hc pp pc coop base from time) where
-  -- the part's time is in the row's cost
+  pub preemptive-work : (y : ℕ) → workAt pre y ≡ work (keep preemptive rows) y
+  preemptive-work y = rw (seen .preemptives) (work-loads (keep preemptive rows) y)
+
+  -- the part takes time
   pub time-pos : 0 < time
-  time-pos = omega (arith, a .timed, part-pos (a .t) (a .seen .core .good (a .t) (a .seen .row)) (a .r) (a .within))
+  time-pos = omega (arith, a .timed, part-pos t (seen .core .good t (seen .row)) r (a .within))
 
   -- what is before the part and the part fit in the window, with the higher rows' work
-  pub fits : base + time + work (higher (a .rows) (a .t)) (a .L) ≤ a .L
+  fits : base + time + work (higher rows t) L ≤ L
   fits =
       omega (
         arith,
         a .timed,
         a .done,
-        part-fits (a .t) (a .seen .core .good (a .t) (a .seen .row)) (a .r),
-        inside (a .rows) (a .seen .core) (a .t) (a .seen .row) (a .L) (a .seen .windowed) (a .j) (a .inside),
+        part-fits t (seen .core .good t (seen .row)) r,
+        inside rows (seen .core) t (seen .row) L (seen .windowed) j (a .inside),
       )
 
   -- the window is at most the limit
-  pub window-small : a .L ≤ 16777215
-  window-small = window-most (a .rows) (a .seen .core) (a .t) (a .seen .row) (a .L) (a .seen .windowed)
-
-  -- so the search begins within it
-  pub from-small : from ≤ a .L
-  from-small = a .warm .low (a .L) (omega arith) (omega (arith, fits))
+  pub window-small : L ≤ 16777215
+  window-small = window-most rows (seen .core) t (seen .row) L (seen .windowed)
 
   -- so what the code adds is small
   pub in-range : (base + time ≤ 16777215) × (from ≤ 16777215) × (0 < time)
-  in-range = (omega (arith, fits, window-small), omega (arith, from-small, window-small), time-pos)
+  in-range = (
+    omega (arith, fits, window-small),
+    omega (arith, a .warm .low L (omega arith) (omega (arith, fits)), window-small),
+    time-pos,
+  )
 
   -- the search may begin as much later as the base grows
-  shifted : (c : ℕ) → Warm (a .rows) (a .t) (base + c) (from + c)
-  shifted c = under-shift (work (higher (a .rows) (a .t))) (work-mono (higher (a .rows) (a .t))) base c from (a .warm)
+  shifted : (c : ℕ) → Warm rows t (base + c) (from + c)
+  shifted c = under-shift (work (higher rows t)) (work-mono (higher rows t)) base c from (a .warm)
 
   -- and there the right side lies no lower
-  pub begins : (c : ℕ) → from + c ≤ side hp hc (base + c) (from + c)
-  begins c =
-      omega (arith, shifted c .rises, higher-work (a .rows) (a .t) (a .L) hp hc pp pc coop (a .seen) (from + c))
+  pub begins : (c : ℕ) → from + c ≤ side above (base + c) (from + c)
+  begins c = omega (arith, shifted c .rises, higher-work (from + c))
 
-  -- a least solution over the higher rows is what the search over the slices answers
-  pub solved : (c y e : ℕ) → IsLeast (λ z. base + c + work (higher (a .rows) (a .t)) z) 0 limit y
-      → e ≡ value (searched (side hp hc (base + c)) (from + c) .found) → e ≡ y
-  solved c y e l q =
-      answers (side hp hc (base + c)) (from + c) y e
-      (least-same _ _ (from + c) limit
-      (λ z h. ap (λ (n : ℕ). base + c + n) (higher-work (a .rows) (a .t) (a .L) hp hc pp pc coop (a .seen) z))
+  -- a least solution over the higher rows is what the search over the slice answers
+  pub solved : (c y : ℕ) → IsLeast (λ z. base + c + work (higher rows t) z) 0 limit y → solution above (base + c) (from + c) ≡ y
+  unfolding limit searched value
+  solved c y l =
+      ap value
+      (least-same _ _ (from + c) limit (λ z h. ap (λ (n : ℕ). base + c + n) (higher-work z))
       ∙ under-least _ limit (from + c) y (shifted c) l)
-      q
 
   -- and the next search may begin there
-  pub reached : (c y : ℕ) → IsLeast (λ z. base + c + work (higher (a .rows) (a .t)) z) 0 limit y
-      → Warm (a .rows) (a .t) (base + c) y
-  reached c y l =
-      least-under _ 0 (λ x z h. omega (arith, work-mono (higher (a .rows) (a .t)) x z h)) (omega arith) limit y l
+  pub reached : (c y : ℕ) → IsLeast (λ z. base + c + work (higher rows t) z) 0 limit y → Warm rows t (base + c) y
+  reached c y l = least-under _ 0 (λ x z h. omega (arith, work-mono (higher rows t) x z h)) (omega arith) limit y l
 
-  -- a preemptive part: the search answers with its end
-  pub preemptive-ended : cooperative (a .t) ≡ false → (e : ℕ)
-      → e ≡ value (searched (side hp hc (base + time)) (from + time) .found)
-      → Ended (a .rows) (a .t) (a .j) (a .r) (base + time) (record { end = e; next = e })
-  unfolding preemptiveEnd
-  preemptive-ended n e q =
-      let same : e ≡ range .f = solved time (range .f) e the-end q in
-      record {
-        ends = finish-preemptive (a .rows) (a .t) (a .r) (a .j) n ∙ range .ends ∙ ap At (sym same);
-        warm = subst (Warm (a .rows) (a .t) (base + time)) (sym same) (reached time (range .f) the-end);
-      }
-    where
-      range : PreemptiveRange (a .rows) (a .t) (a .L) (a .r) (a .j)
-      range =
-          preemptive-range (a .rows) (a .seen .core) (a .t) (a .seen .row) (a .L) (a .seen .windowed) (a .r) (a .j)
-          (a .within) (a .inside) n
-
-      -- the two right sides are the same
-      sides : (z : ℕ) → work (higher (a .rows) (a .t)) z + a .j * cost (a .t) + partsBefore (a .t) (suc (a .r))
-          ≡ base + time + work (higher (a .rows) (a .t)) z
-      sides z = omega (arith, a .done, a .timed, parts-suc (a .t) (a .r), no-blocking (a .rows) (a .t) n)
-
-      the-end : IsLeast (λ z. base + time + work (higher (a .rows) (a .t)) z) 0 limit (range .f)
-      the-end =
-          let l = least-at _ 1 limit (range .ends) in
-          record {
-            above = omega arith;
-            within = l .within;
-            solves = l .solves ∙ sides (range .f);
-            first = λ z b c d. l .first z (omega (arith, time-pos)) c (d ∙ sym (sides z));
-          }
-
--- a row whose kind is known
-abbrev pub as-kind : (hp hc pp pc : List ℕ) (coop b : Bool) (base from time : ℕ) → coop ≡ b
-    → AtPart hp hc pp pc coop base from time → AtPart hp hc pp pc b base from time
-as-kind hp hc pp pc coop b base from time e a =
+-- a preemptive part: the search answers with its end
+pub preemptive-ends : {above pre : List ℕ} {base from time : ℕ} (a : AtPart above pre false base from time)
+    → IsEnd (a .rows) (a .t) (a .j) (a .r) (base + time) (endOfPart above pre false base from time)
+unfolding endOfPart preemptiveEnd
+preemptive-ends {above} {pre} {base} {from} {time} a =
+    rw (solved a time (range .f) the-end)
     record {
-      rows = a .rows;
-      t = a .t;
-      L = a .L;
-      j = a .j;
-      r = a .r;
-      seen =
-          record {
-            core = a .seen .core;
-            row = a .seen .row;
-            windowed = a .seen .windowed;
-            periods = a .seen .periods;
-            costs = a .seen .costs;
-            prePeriods = a .seen .prePeriods;
-            preCosts = a .seen .preCosts;
-            kind = sym e ∙ a .seen .kind;
-          };
-      inside = a .inside;
-      within = a .within;
-      done = a .done;
-      warm = a .warm;
-      timed = a .timed;
+      ends = finish-preemptive (a .rows) (a .t) (a .r) (a .j) kind ∙ range .ends;
+      warm = reached a time (range .f) the-end;
     }
+  where
+    kind : cooperative (a .t) ≡ false
+    kind = sym (a .seen .kind)
+
+    range : PreemptiveRange (a .rows) (a .t) (a .L) (a .r) (a .j)
+    range =
+        preemptive-range (a .rows) (a .seen .core) (a .t) (a .seen .row) (a .L) (a .seen .windowed) (a .r) (a .j)
+        (a .within) (a .inside) kind
+
+    -- the two right sides are the same
+    sides : (z : ℕ) → work (higher (a .rows) (a .t)) z + a .j * cost (a .t) + partsBefore (a .t) (suc (a .r))
+        ≡ base + time + work (higher (a .rows) (a .t)) z
+    sides z = omega (arith, a .done, a .timed, parts-suc (a .t) (a .r), no-blocking (a .rows) (a .t) kind)
+
+    the-end : IsLeast (λ z. base + time + work (higher (a .rows) (a .t)) z) 0 limit (range .f)
+    the-end =
+        let l = least-at _ 1 limit (range .ends) in
+        record {
+          above = omega arith;
+          within = l .within;
+          solves = l .solves ∙ sides (range .f);
+          first = λ z b c d. l .first z (omega (arith, time-pos a)) c (d ∙ sym (sides z));
+        }

@@ -1,4 +1,2 @@
 pub mod Loads
-pub mod Slices
-pub mod Gathered
-pub mod Steps
+pub mod Promises

@@ -1,21 +1,25 @@
 -- `bounds::cooperative_end` meets its contract: the first search gives the tick after the start, the second the end.
-use Prim.Native.Nat.{_+_, _-_, _≤_, _<_}
-use mathlib.Core.Path.{_≡_, refl, ap, _∙_}
+use Prim.Native.Nat.{ℕ, _+_, _-_, _≤_, _<_}
+use mathlib.Core.Path.{_≡_, ap, _∙_}
+use mathlib.Core.Bool.{true}
+use mathlib.Core.List.{List}
 use native.Mathlib.Omega.{arith}
 use borrow.Author.Needs.{needs}
 use Rattle.model.specs.Least.{value}
-use Rattle.bounds.specs.Slices.{side, searched}
-use Rattle.bounds.proofs.Walk.{in-range, higher-slices, preemptive-slices, begins}
-use Rattle.bounds.proofs.Begun.{start-range, end-begins, cooperative-ended}
+use Rattle.bounds.specs.declared.PartEnd.{PartEnd}
+use Rattle.bounds.specs.Loads.{workAt, solution}
+use Rattle.bounds.specs.Promises.{endFromStart, endOfPart}
+use Rattle.bounds.proofs.Walk.{in-range, highers-summed, preemptives-summed, begins}
+use Rattle.bounds.proofs.Begun.{StartRange, start-range}
 use Rattle.bounds.proofs.cooperative_end.Statement.{statement}
 use Rattle.bounds.proofs.cooperative_end.Tie as tie
 
 -- the numbers that the code adds are small
-small : (c : tie.After-shared-slice-known4)
-    → (c .before .before .before .before .args .base + c .before .before .before .before .args .time ≤ 16777215)
-    × (c .before .before .before .before .args .from ≤ 16777215)
-    × (0 < c .before .before .before .before .args .time)
-small c = in-range _ _ _ _ _ _ _ _ (c .before .before .before .before .pre)
+small : (c : tie.After-shared-slice-known2)
+    → (c .before .before .args .base + c .before .before .args .time ≤ 16777215)
+    × (c .before .before .args .from ≤ 16777215)
+    × (0 < c .before .before .args .time)
+small c = in-range (c .before .before .pre)
 
 add-search : tie.Need-add-search
 add-search c = omega (arith, small c)
@@ -25,8 +29,8 @@ add-search-2 c = omega (arith, small c)
 
 search-requires : tie.Need-search-requires
 search-requires c κs =
-    let a = c .before .before .before .before .pre in
-    (higher-slices _ _ _ _ _ _ _ _ (a .seen), (omega (arith, small c), begins _ _ _ _ _ _ _ _ a 1))
+    let a = c .before .before .pre in
+    (highers-summed a, (omega (arith, small c), begins a 1))
 
 value-of-requires : tie.Need-value-of-requires
 value-of-requires c κs = search needs
@@ -34,57 +38,47 @@ value-of-requires c κs = search needs
 -- what the first search answers
 answered : (c : tie.After-value-of)
     → c .value-of .result
-    ≡ value
-    (searched
-    (side (c .before .before .before .before .before .before .args .hp .now)
-    (c .before .before .before .before .before .before .args .hc .now)
-    (c .before .before .before .before .before .before .args .base + 1))
-    (c .before .before .before .before .before .before .args .from + 1)
-    .found)
+    ≡ solution (c .before .before .before .before .args .higher .now) (c .before .before .before .before .args .base + 1)
+    (c .before .before .before .before .args .from + 1)
 answered c = c .value-of .ensures ∙ ap (λ a. value (a .found)) (c .before .search .ensures)
 
 -- the start and what the code makes of it are in range
-ranges : (c : tie.After-value-of)
-    → (1 ≤ c .value-of .result) × (c .value-of .result ≤ 16777215)
-    × (c .value-of .result - 1 + c .before .before .before .before .before .before .args .time ≤ 16777215)
-ranges c =
-    let r = start-range _ _ _ _ _ _ _ (c .before .before .before .before .before .before .pre) (c .value-of .result) _ (answered c) refl in
-    (r .0, r .1, r .3)
+range : (c : tie.After-value-of)
+    → StartRange (c .before .before .before .before .args .preemptive .now) (c .before .before .before .before .args .time)
+    (c .value-of .result)
+range c = start-range (c .before .before .before .before .pre) (c .value-of .result) (answered c)
 
 sub-earliest : tie.Need-sub-earliest
-sub-earliest c = ranges c .0
+sub-earliest c = range c .some
 
 add-earliest : tie.Need-add-earliest
-add-earliest c = omega (arith, ranges c)
+add-earliest c = omega (arith, range c .early)
 
 work-requires : tie.Need-work-requires
-work-requires c κs =
-    (preemptive-slices _ _ _ _ _ _ _ _ (c .before .before .before .before .before .before .pre .seen), ranges c .1)
+work-requires c κs = (preemptives-summed (c .before .before .before .before .pre), range c .small)
 
 sub-rest : tie.Need-sub-rest
-sub-rest c =
-    let r = start-range _ _ _ _ _ _ _ (c .before .before .before .before .before .before .before .pre) (c .before .value-of .result)
-    (c .work .result) (answered (c .before)) (c .work .ensures) in
-    omega arith
+sub-rest c = omega (arith, c .work .ensures, range (c .before) .behind)
 
 search-requires-2 : tie.Need-search-requires-2
-search-requires-2 c κs =
-    let a = c .before .before .before .before .before .before .before .pre in (
-      preemptive-slices _ _ _ _ _ _ _ _ (a .seen),
-      (
-        omega (arith, ranges (c .before)),
-        end-begins _ _ _ _ _ _ _ a (c .before .value-of .result) (c .work .result) (answered (c .before)) (c .work .ensures),
-      ),
-    )
+search-requires-2 c κs = (
+  preemptives-summed (c .before .before .before .before .before .pre),
+  (omega (arith, range (c .before) .early), rw (c .work .ensures) (range (c .before) .begins)),
+)
 
 value-of-requires-2 : tie.Need-value-of-requires-2
 value-of-requires-2 c κs = search needs
 
+-- the two searches together
+both : (above pre : List ℕ) (base from time y w e : ℕ) → y ≡ solution above (base + 1) (from + 1) → w ≡ workAt pre y
+    → e ≡ solution pre (y - 1 + time - w) (y - 1 + time)
+    → _≡_ {A = PartEnd} (record { end = e; next = y - 1 + time }) (endOfPart above pre true base from time)
+unfolding endOfPart endFromStart
+both above pre base from time y w e p q r = rw (r, q, p)
+
 returns : tie.Need-returns
 returns c =
-    λ a.
-    cooperative-ended _ _ _ _ _ _ _ a (c .before .before .before .value-of .result) (c .before .before .work .result)
-    (answered (c .before .before .before)) (c .before .before .work .ensures) (c .value-of2 .result)
+    both _ _ _ _ _ _ _ _ (answered (c .before .before .before)) (c .before .before .work .ensures)
     (c .value-of2 .ensures ∙ ap (λ b. value (b .found)) (c .before .search2 .ensures))
 
 pub cooperative-end-spec : {M : Type 1} → statement M

@@ -1,150 +1,155 @@
--- `bounds::row_bounds` meets its contract: after j jobs the bounds are the largest responses of those jobs.
-use Prim.Native.Nat.{ℕ, suc, _+_, _-_, _*_}
-use mathlib.Core.Path.{_≡_, sym, ap, subst, _∙_}
-use mathlib.Core.Bool.{Bool}
+-- `bounds::row_bounds` meets its contract: after j jobs the bounds are those over j jobs, and job j stands before its first part.
+use Prim.Native.Nat.{ℕ, suc, _+_, _-_, _≤_, _<_}
+use mathlib.Core.Path.{_≡_, refl, sym, ap, subst, _∙_}
 use mathlib.Core.List.{List}
-use native.Mathlib.Nat.{zero-mul, suc-mul}
+use native.Mathlib.Nat.{le-antisymm}
 use native.Mathlib.Omega.{arith}
 use borrow.Author.Needs.{needs}
-use lib.ListN.{length, getD, take, drop, replicate, length-drop, length-replicate}
+use lib.ListN.{length, getD, take, drop, replicate, length-drop}
 use lib.Seq.{take-all}
-use Rattle.model.specs.Task.{Task}
-use Rattle.bounds.specs.Gathered.{Gathered}
-use Rattle.bounds.proofs.Asked.{has-own}
-use Rattle.bounds.proofs.AllJobs.{JobsDone, none-done, at-job, base-most, one-more, all-done, length-most, period-most, period-some}
+use Rattle.model.specs.Bounds.{up}
+use Rattle.bounds.specs.declared.Job.{Job}
+use Rattle.bounds.specs.declared.Own.{Own}
+use Rattle.bounds.specs.Promises.{OwnRow, AtJob, JobLeft, jobAt, boundsAfter, boundsIn}
+use Rattle.bounds.proofs.AllJobs.{bounds-length, has-own, period-range, window-small, at-job, base-small, looked-at, all-looked-at}
 use Rattle.bounds.proofs.row_bounds.Statement.{statement}
 use Rattle.bounds.proofs.row_bounds.Tie as tie
 
--- j jobs are done
-record Done (periods costs pp pc : List ℕ) (cooperative : Bool) (blocking window : ℕ) (times bounds : List ℕ)
-    (base from release : ℕ) : Type 0 where
-  j : ℕ
-  worked : base ≡ blocking + j * getD costs 0 0
-  released : release ≡ j * getD periods 0 0
-  same : length bounds ≡ length times
-  jobs : (rows : List Task) (t : Task) → Gathered rows t periods costs pp pc cooperative blocking window times
-      → JobsDone rows t window j base from bounds
+-- a slice from its third element on
+tail-is : (xs : List ℕ) → take (length xs - 2) (drop 2 xs) ≡ drop 2 xs
+tail-is xs = take-all (length xs - 2) (drop 2 xs) (omega (arith, length-drop 2 xs))
 
--- a slice from its second element on
-tail-is : (xs : List ℕ) → take (length xs - 1) (drop 1 xs) ≡ drop 1 xs
-tail-is xs = take-all (length xs - 1) (drop 1 xs) (omega (arith, length-drop 1 xs))
+-- j jobs are done
+record JobsDone (own-first pre : List ℕ) (own : Own) (times bounds : List ℕ) (job : Job) : Type 0 where
+  j : ℕ
+  few : j ≤ up (own .window) (getD own-first 0 0)
+  stands : job ≡ jobAt own-first pre own times j
+  largest : bounds ≡ boundsAfter own-first pre own times j
+
+-- before the first job all bounds are 0
+none-done : {own-first pre : List ℕ} {own : Own} {times : List ℕ} (bounds : List ℕ) → bounds ≡ replicate (length times) 0
+    → JobsDone own-first pre own times bounds (record { base = own .blocking; from = own .blocking; release = 0 })
+unfolding jobAt boundsAfter
+none-done bounds zeros = record { j = 0; few = omega arith; stands = refl; largest = zeros }
+
+module _ {own-first pre : List ℕ} {own : Own} {times bounds : List ℕ} {job : Job} (g : OwnRow own-first pre own times)
+    (d : JobsDone own-first pre own times bounds job) where
+  -- as many bounds as parts
+  same : length bounds ≡ length times
+  same = ap length (d .largest) ∙ bounds-length own-first pre own times (d .j)
+
+  -- after the last job the bounds are there
+  all-done : own .window ≤ job .release → bounds ≡ boundsIn own-first pre own times
+  unfolding boundsIn
+  all-done past =
+      let most = all-looked-at g (d .j) (subst (λ (k : Job). own .window ≤ k .release) (d .stands) past) in
+      d .largest ∙ ap (boundsAfter own-first pre own times) (le-antisymm (d .few) most)
+
+  module _ (more : job .release < own .window) where
+    -- a job that is released in the window is looked at
+    looked : d .j < up (own .window) (getD own-first 0 0)
+    looked = looked-at g (d .j) (subst (λ (k : Job). k .release < own .window) (d .stands) more)
+
+    -- its work fits in the window
+    fits : job .base + getD own-first 1 0 ≤ 16777215
+    fits = omega (arith, ap (λ (k : Job). k .base) (d .stands), base-small g (d .j) looked)
+
+    module _ (above : List ℕ) (behind : above ≡ drop 2 own-first) where
+      -- it stands before its first part
+      asked : AtJob above pre (own .cooperative) job times
+      asked = rw (behind, d .stands) (at-job g (d .j) looked)
+
+      -- and the walk goes on
+      one-more : (new : List ℕ) (from : ℕ) → JobLeft above pre (own .cooperative) job times bounds new from
+          → JobsDone own-first pre own times new
+          (record { base = job .base + getD own-first 1 0; from = from; release = job .release + getD own-first 0 0 })
+      unfolding jobAt boundsAfter
+      one-more new from left =
+          record {
+            j = suc (d .j);
+            few = looked;
+            stands = rw (left .at, behind, d .stands);
+            largest = rw (left .bounds, behind, d .stands, d .largest);
+          }
 
 abbrev Inv-loop : tie.InvT-loop
-Inv-loop periods costs pp pc cooperative blocking window times bounds₀ period cost hp hc base₀ from₀ release₀ bounds base from release =
-    Done periods costs pp pc cooperative blocking window times bounds base from release
+Inv-loop loads preemptive own times bounds₀ period cost higher job₀ bounds job = JobsDone loads preemptive own times bounds job
 
 abbrev μ-loop : tie.MeasureT-loop
-μ-loop periods costs pp pc cooperative blocking window times bounds₀ period cost hp hc base₀ from₀ release₀ bounds base from release =
-    window - release
+μ-loop loads preemptive own times bounds₀ period cost higher job₀ bounds job = own .window - job .release
 
--- the function's entry, as the code before the loop and the loop see it
+-- the function's entry, as the code before the loop and the loop's test see it
 abbrev entry : tie.After-slice-known Inv-loop μ-loop → tie.Start Inv-loop μ-loop
-entry c = c .before .before .before .before .before .before
+entry c = c .before .before .before .before
 
-abbrev called : tie.In-loop Inv-loop μ-loop → tie.Start Inv-loop μ-loop
+abbrev called : tie.After-struct-known2 Inv-loop μ-loop → tie.Start Inv-loop μ-loop
 called c = entry (c .before .before .before .before .before .before .before .before .before .before)
 
 clear-requires : tie.Need-clear-requires Inv-loop μ-loop
 clear-requires c κs = search needs
 
 shared-slice-read-period : tie.Need-shared-slice-read-period Inv-loop μ-loop
-shared-slice-read-period c = has-own _ _ _ _ _ (entry (c .before .before .before .before .before) .pre .0 .2 .demanded) .0
+shared-slice-read-period c = omega (arith, has-own (entry (c .before .before .before .before .before) .pre .0))
 
 cast-period : tie.Need-cast-period Inv-loop μ-loop
-cast-period c = omega (arith, c .shared-slice-known6 .given 0)
+cast-period c = omega (arith, c .shared-slice-known4 .given 0)
 
 shared-slice-read-cost : tie.Need-shared-slice-read-cost Inv-loop μ-loop
-shared-slice-read-cost c = has-own _ _ _ _ _ (entry (c .before .before .before .before .before .before) .pre .0 .2 .demanded) .1
+shared-slice-read-cost c = has-own (entry (c .before .before .before .before .before .before) .pre .0)
 
 cast-cost : tie.Need-cast-cost Inv-loop μ-loop
-cast-cost c = omega (arith, c .shared-slice-known7 .given 0)
+cast-cost c = omega (arith, c .shared-slice-known5 .given 1)
 
-sub-hp : tie.Need-sub-hp Inv-loop μ-loop
-sub-hp c = has-own _ _ _ _ _ (entry (c .before .before .before .before .before .before) .pre .0 .2 .demanded) .0
+sub-higher : tie.Need-sub-higher Inv-loop μ-loop
+sub-higher c = has-own (entry (c .before .before .before .before .before .before) .pre .0)
 
-part-hp-start : tie.Need-part-hp-start Inv-loop μ-loop
-part-hp-start c = omega (arith, sub-hp c)
+part-higher-start : tie.Need-part-higher-start Inv-loop μ-loop
+part-higher-start c = omega (arith, sub-higher c)
 
-part-hp-end : tie.Need-part-hp-end Inv-loop μ-loop
-part-hp-end c = omega arith
-
-sub-hc : tie.Need-sub-hc Inv-loop μ-loop
-sub-hc c = has-own _ _ _ _ _ (entry (c .before .before .before .before .before .before .before) .pre .0 .2 .demanded) .1
-
-part-hc-start : tie.Need-part-hc-start Inv-loop μ-loop
-part-hc-start c = omega (arith, sub-hc c)
-
-part-hc-end : tie.Need-part-hc-end Inv-loop μ-loop
-part-hc-end c = omega arith
+part-higher-end : tie.Need-part-higher-end Inv-loop μ-loop
+part-higher-end c = omega arith
 
 loop-holds : tie.Need-loop-holds Inv-loop μ-loop
 loop-holds c =
-    let s = entry (c .before .before .before .before .before .before .before .before) in
-    let zeros = c .before .before .before .before .before .before .clear .ensures ∙ ap (λ (n : ℕ). replicate n 0) (s .pre .1) in
-    record {
-      j = 0;
-      worked = omega (arith, zero-mul (getD (s .args .costs .now) 0 0));
-      released = sym (zero-mul (getD (s .args .periods .now) 0 0));
-      same = ap length zeros ∙ length-replicate _ 0;
-      jobs = λ rows t g. subst (JobsDone rows t _ 0 _ _) (sym zeros) (none-done rows t _ _ _ _ _ _ _ _ g);
-    }
+    none-done _ (c .before .before .before .before .before .clear .ensures ∙ ap (λ (n : ℕ). replicate n 0) (entry (c .before .before .before .before .before .before .before) .pre .1))
 
 job-parts-requires : tie.Need-job-parts-requires Inv-loop μ-loop
 job-parts-requires c κs =
-    let s = called (c .before) in
-    let d = c .before .before .loop .inv in
-    let g = s .pre .0 .2 in (
-      at-job _ _ _ _ _ _ _ _ _ _ g (d .j) _ _ _ _ (d .jobs _ _ g) (d .worked) (d .released) (c .before .loop-test .taken) _ _
-          (tail-is (s .args .periods .now)) (tail-is (s .args .costs .now)),
-      d .same,
-    )
+    let t = c .before in
+    let s = called (t .before) in
+    let d = t .before .before .before .loop .inv in
+    (asked (s .pre .0) d (t .if1 .taken) _ (tail-is (s .args .loads .now)), same (s .pre .0) d)
 
 add-base : tie.Need-add-base Inv-loop μ-loop
 add-base c =
-    let g = called (c .before .before .before .before) .pre .0 .2 in
-    let d = c .before .before .before .before .before .loop .inv in
-    let most =
-    base-most _ _ _ _ _ _ _ _ _ _ g (d .j) _ _ _ _ (d .jobs _ _ g) (d .worked) (d .released) (c .before .before .before .before .loop-test .taken) in
-    omega (arith, most)
+    let t = c .before .before .before .before .before in
+    omega (arith, fits (called (t .before) .pre .0) (t .before .before .before .loop .inv) (t .if1 .taken))
 
 add-release : tie.Need-add-release Inv-loop μ-loop
 add-release c =
-    let g = called (c .before .before .before .before) .pre .0 .2 in
-    let small = length-most _ _ _ _ _ _ _ _ _ _ g in
-    let most = period-most _ _ _ _ _ _ _ _ _ _ g in
-    omega (arith, small, most, c .before .before .before .before .loop-test .taken)
+    let t = c .before .before .before .before .before .before in
+    let g = called (t .before) .pre .0 in
+    omega (arith, window-small g, period-range g .1, t .if1 .taken)
 
 loop-less : tie.Need-loop-less Inv-loop μ-loop
 loop-less c =
-    let some = period-some _ _ _ _ _ _ _ _ _ _ (called (c .before .before .before .before) .pre .0 .2) in
-    omega (arith, some, c .before .before .before .before .loop-test .taken)
+    let t = c .before .before .before .before .before .before in
+    omega (arith, period-range (called (t .before) .pre .0) .0, t .if1 .taken)
 
 loop-again : tie.Need-loop-again Inv-loop μ-loop
 loop-again c =
-    let s = called (c .before .before .before .before) in
-    let d = c .before .before .before .before .before .loop .inv in
-    record {
-      j = suc (d .j);
-      worked = omega (arith, d .worked, suc-mul (d .j) (getD (s .args .costs .now) 0 0));
-      released = omega (arith, d .released, suc-mul (d .j) (getD (s .args .periods .now) 0 0));
-      same = c .before .before .job-parts .kept .1 .1 .1 .1 .1 .1 .1 .1 .1 .0 ∙ d .same;
-      jobs =
-          λ rows t g.
-          (let more = c .before .before .before .before .loop-test .taken in
-          one-more rows t _ _ _ _ _ _ _ _ g (d .j) _ _ _ _ (d .jobs rows t g) (d .worked) (d .released) more _ _
-          (c .before .before .job-parts .ensures
-          (at-job rows t _ _ _ _ _ _ _ _ g (d .j) _ _ _ _ (d .jobs rows t g) (d .worked) (d .released) more _ _
-          (tail-is (s .args .periods .now)) (tail-is (s .args .costs .now)))));
-    }
+    let t = c .before .before .before .before .before .before in
+    let s = called (t .before) in
+    one-more (s .pre .0) (t .before .before .before .loop .inv) (t .if1 .taken) _ (tail-is (s .args .loads .now)) _ _
+    (c .before .before .before .before .job-parts .ensures)
 
 same-length : tie.Need-same-length Inv-loop μ-loop
-same-length c = c .before .loop .inv .same ∙ sym (entry (c .before .before .before .before .before .before .before .before .before .before) .pre .1)
+same-length c =
+    let s = called (c .before) in
+    same (s .pre .0) (c .before .before .before .loop .inv) ∙ sym (s .pre .1)
 
 returns : tie.Need-returns Inv-loop μ-loop
-returns c =
-    λ rows t g.
-    (let d = c .before .loop .inv in
-    all-done rows t _ _ _ _ _ _ _ _ g (d .j) _ _ _ _ (d .jobs rows t g) (d .worked) (d .released) (c .loop-test .left) (d .same))
+returns c = all-done (called (c .before) .pre .0) (c .before .before .before .loop .inv) (c .if1 .left)
 
 pub row-bounds-spec : {M : Type 1} → statement M
 row-bounds-spec =
@@ -157,12 +162,9 @@ row-bounds-spec =
     cast-period
     shared-slice-read-cost
     cast-cost
-    sub-hp
-    part-hp-start
-    part-hp-end
-    sub-hc
-    part-hc-start
-    part-hc-end
+    sub-higher
+    part-higher-start
+    part-higher-end
     loop-holds
     job-parts-requires
     add-base
