@@ -16,7 +16,8 @@ use Rattle.table.specs.declared.Row.{Row}
 use Rattle.table.specs.Memory.{zeroRow, rowOf}
 use Rattle.bounds.specs.declared.Answer.{Answer}
 use Rattle.bounds.specs.Loads.{windowAnswer}
-use Rattle.bounds.proofs.Asked.{window-is, bounds-are}
+use Rattle.bounds.proofs.Asked.{window-is}
+use Rattle.bounds.proofs.AllJobs.{bounds-are}
 use Rattle.cores.specs.declared.Asked.{Asked}
 use Rattle.cores.specs.declared.Core.{Core}
 use Rattle.cores.specs.Cores.{askedOf, tasksIn}
@@ -54,7 +55,6 @@ module _ {c : Core} (k : IsCore c) where
     at-row = record { rows = tasksIn c; t = t; good = k .good; row = p; all = count-is; is = asked-are }
 
 module _ {asked : List Asked} {count own : ℕ} (a : AtRow asked count own) where
-  -- a window is at most the limit
   -- what its search answers is its window
   pub window-in : windowIn (take count asked) own ≡ windowLength (a .rows) (a .t)
   unfolding windowIn windowLength windowAnswer each

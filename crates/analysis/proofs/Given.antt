@@ -2,41 +2,32 @@
 use Prim.Native.Nat.{ℕ, _≤_}
 use native.Mathlib.Omega.{arith}
 use borrow.Author.Tests.{ne-eqb}
-use mathlib.Core.Path.{_≡_, refl, ap, subst, _∙_}
+use mathlib.Core.Path.{_≡_, subst}
 use mathlib.Core.Bool.{true, false}
-use mathlib.Core.List.{List, [], _∷_, _++_}
-use lib.ListN.{drop}
+use mathlib.Core.List.{List}
+use Rattle.lists.specs.Lists.{over}
 use Rattle.model.specs.Task.{Task}
-use Rattle.model.specs.Bounds.{rowBounds}
 use Rattle.table.specs.declared.Verdict.{Verdict}
 use Rattle.table.specs.Verdicts.{codeOf}
-use Rattle.passes.specs.Held.{chained}
 use Rattle.analysis.specs.declared.Analysed.{Analysed}
-use Rattle.analysis.specs.Analysis.{needed, boundsOf, writes, answered, roomAfter, Gives}
+use Rattle.analysis.specs.Analysis.{needed, coreBounds, writes, refusal, answered, roomAfter, Gives}
 
 -- the codes of reading write nothing
 pub reading-writes-none : (v : Verdict) → (codeOf v ≡ 0 → ⊥) → codeOf v ≤ 8 → writes v ≡ false
 unfolding writes
 reading-writes-none v h small = rw (ne-eqb (codeOf v) 0 h, ne-eqb (codeOf v) 12 (λ e. omega arith))
 
--- bounds row by row
-pub bounds-chained : (rows ts : List Task) → boundsOf rows ts ≡ chained (rowBounds rows) ts
-unfolding boundsOf chained
-bounds-chained rows [] = refl
-bounds-chained rows (t ∷ ts) = ap (_++_ (rowBounds rows t)) (bounds-chained rows ts)
-
 module _ (said v : Verdict) (rows : List Task) (room : List ℕ) (same : said ≡ v) where
   -- nothing is written
-  pub gives-none : writes v ≡ false → Gives said rows room (record { verdict = v; count = 0 }) room
+  pub gives-none : writes v ≡ false → {r : Analysed} → r ≡ refusal v → Gives said rows room r room
   unfolding answered roomAfter
-  gives-none w = record { answer = rw (same, w); left = rw (same, w) }
+  gives-none w e = record { answer = rw (same, w) e; left = rw (same, w) }
 
   -- all bounds are written
-  pub gives-all : writes v ≡ true → (count : ℕ) (room′ : List ℕ) → count ≡ needed rows
-      → room′ ≡ chained (rowBounds rows) rows ++ drop (needed rows) room
+  pub gives-all : writes v ≡ true → (count : ℕ) (room′ : List ℕ) → count ≡ needed rows → room′ ≡ over (coreBounds rows) room
       → Gives said rows room (record { verdict = v; count = count }) room′
   unfolding answered roomAfter
-  gives-all w count room′ e f = record { answer = rw (same, w, e); left = f ∙ rw (same, w, bounds-chained rows rows) }
+  gives-all w count room′ e f = record { answer = rw (same, w, e); left = rw (same, w) f }
 
 -- the same said
 pub gives-same : {v w : Verdict} {rows : List Task} {room room′ : List ℕ} {r : Analysed} → v ≡ w → Gives v rows room r room′

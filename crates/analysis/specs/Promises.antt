@@ -11,9 +11,11 @@ use Rattle.model.specs.Task.{Task, parts}
 use Rattle.model.specs.Rows.{GoodCore}
 use Rattle.model.specs.declared.Found.the-variants.{At}
 use Rattle.model.specs.Least.{found, value}
-use Rattle.model.specs.Bounds.{window, meetsDeadline, highest, idOf}
+use Rattle.model.specs.Bounds.{onCore, window, meetsDeadline, highest, idOf}
 use Rattle.model.specs.Verdict.{AllWindows}
 use Rattle.table.specs.declared.Row.{Row}
+use Rattle.table.specs.declared.Table.{Table}
+use Rattle.table.specs.Memory.{tasksOf}
 use Rattle.bounds.specs.Loads.{searched}
 use Rattle.bounds.specs.Promises.{boundsIn}
 use Rattle.cores.specs.declared.Asked.{Asked}
@@ -22,7 +24,8 @@ use Rattle.cores.specs.Cores.{askedOf, tasksIn}
 use Rattle.cores.specs.declared.Which.the-variants.{Preemptive}
 use Rattle.cores.specs.Promises.{askedAt, ownFirst, wantedLoads, blockingIn, IsCore}
 use Rattle.analysis.specs.declared.Top.{Top}
-use Rattle.analysis.specs.Analysis.{coreBounds}
+use Rattle.analysis.specs.declared.Analysed.{Analysed}
+use Rattle.analysis.specs.Analysis.{coreBounds, coreSaid, Gives}
 
 -- ---- one row, in numbers
 
@@ -88,3 +91,8 @@ pub record ToBound (c : Core) (windows : List ℕ) (room : ℕ) : Type 0 where
 pub record Bounded (rows : List Task) (room : List ℕ) (r : ℕ) (room′ : List ℕ) : Type 0 where
   pub left : room′ ≡ over (coreBounds rows) room
   pub names : r ≡ idOf (highest (late rows) rows)
+
+-- one core of a table without faults: 9, and then what its rows say
+abbrev pub AnalysesGood : Table → ℕ → List ℕ → Analysed → List ℕ → Type 0
+AnalysesGood t core room r room′ =
+    Gives (coreSaid core (onCore core (tasksOf t)) (length room)) (onCore core (tasksOf t)) room r room′

@@ -5,10 +5,13 @@ ghost use lib.ListN.{length, take};
 ghost use lib.Dec.{ltb};
 ghost use Rattle.lists.specs.Lists.{pick};
 ghost use Rattle.model.specs.Task.{Task};
+ghost use Rattle.table.specs.Verdicts.{codeOf};
+ghost use Rattle.table.specs.Faults.{faultOf};
 ghost use Rattle.cores.specs.Cores.{tasksIn};
 ghost use Rattle.cores.specs.Promises.{IsCore};
 ghost use Rattle.analysis.specs.Analysis.{refusal, roomSaid, Gives, Analyses, AnalysesTable};
 ghost use Rattle.analysis.specs.Promises.{AtRow, Bounding, ToBound, windowIn, boundsOn, topRow, Windows, Bounded};
+ghost use Rattle.analysis.specs.Promises.{AnalysesGood};
 use bounds::Own;
 use cores::Asked;
 use cores::Core;
@@ -83,7 +86,7 @@ fn windows(c: Core, out: &mut [u32]) -> u32
 }
 
 // The bounds of row `own`, whose window and times are these.
-fn row_bounds_of(
+fn bounds_of_row(
     asked: [Asked; 64],
     count: usize,
     own: usize,
@@ -124,7 +127,7 @@ fn core_bounds(c: Core, windows: &[u32], room: &mut [u32]) -> u32
     while i < n {
         let row = own.rows[i];
         let e = a + row.parts as usize;
-        row_bounds_of(asked, n, i, windows[i], &times[a..e], &mut room[a..e]);
+        bounds_of_row(asked, n, i, windows[i], &times[a..e], &mut room[a..e]);
         if row.deadline < room[e - 1] {
             top = higher_of(top, row);
         }
@@ -161,7 +164,18 @@ pub fn analyse_core(c: Core, room: &mut [u32]) -> Analysed
     }
 }
 
-// The answer for one core of a table in memory: its own faults first, then 9, 10, 11, 12.
+// The answer for one core of a good table: 9, then 10, 11, 12.
+fn analyse_good(t: Table, core: u32, room: &mut [u32]) -> Analysed
+    requires { ⌜ codeOf (faultOf t) ≡ 0 ⌝ }
+    ensures { λ r. ⌜ AnalysesGood t core (now (room .entry)) r (now (room .exit)) ⌝ }
+{
+    if 3 < core {
+        return refused(Verdict::NoSuchCore(core as usize));
+    }
+    analyse_core(cores::core_of(t, core), room)
+}
+
+// The answer for one core of a table in memory: its own faults first.
 pub fn analyse_table(t: Table, core: u32, room: &mut [u32]) -> Analysed
     ensures { λ r. ⌜ AnalysesTable t core (now (room .entry)) r (now (room .exit)) ⌝ }
 {
@@ -169,10 +183,7 @@ pub fn analyse_table(t: Table, core: u32, room: &mut [u32]) -> Analysed
     if table::code_of(fault) != 0 {
         return refused(fault);
     }
-    if 3 < core {
-        return refused(Verdict::NoSuchCore(core as usize));
-    }
-    analyse_core(cores::core_of(t, core), room)
+    analyse_good(t, core, room)
 }
 
 // The answer for one core of a table file: the reading codes first.
@@ -185,5 +196,5 @@ pub fn analyse(bytes: &[u8], core: u32, room: &mut [u32]) -> Analysed
         return refused(verdict);
     }
     let table = file.table;
-    analyse_table(table, core, room)
+    analyse_good(table, core, room)
 }
