@@ -5,7 +5,7 @@ use mathlib.Core.Path.{_≡_, refl, sym, ap, _∙_}
 use mathlib.Core.List.{List, [], _∷_}
 use lib.Dec.{eqb}
 use lib.ListN.{length, length-append}
-use Rattle.lists.specs.Lists.{total}
+use Rattle.lists.specs.Lists.{each, total}
 use Rattle.lists.proofs.Walks.{keep-total}
 use Rattle.model.specs.Task.{Task, parts}
 use Rattle.model.specs.Bounds.{onCore}
@@ -21,7 +21,7 @@ use Rattle.cores.proofs.AskedRows.{tasks-in}
 
 -- tasks have as many times as parts
 pub times-count : (ts : List Task) → length (allTimes ts) ≡ total parts ts
-unfolding allTimes total parts
+unfolding allTimes each total parts
 times-count [] = refl
 times-count (t ∷ ts) = length-append (t .times) (allTimes ts) ∙ ap (_+_ (length (t .times))) (times-count ts)
 

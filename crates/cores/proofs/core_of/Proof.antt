@@ -8,7 +8,7 @@ use mathlib.Core.Logic.{⊎-elim}
 use mathlib.Core.List.{List, [], _∷_, _++_, map, map-append, append-nil}
 use lib.ListN.{length, getD, take, drop, set, length-map}
 use lib.Seq.{sets, append-snoc}
-use Rattle.lists.specs.Lists.{padTo, total, sum}
+use Rattle.lists.specs.Lists.{each, padTo, total, sum}
 use Rattle.lists.proofs.Sums.{sum-most}
 use Rattle.lists.proofs.Pads.{set-pad}
 use Rattle.model.specs.Task.{Task, parts, part}
@@ -174,7 +174,7 @@ asked-nothing-requires : tie.Need-asked-nothing-requires Inv-loop μ-loop
 asked-nothing-requires c κs = search needs
 
 loop-holds : tie.Need-loop-holds Inv-loop μ-loop
-unfolding allTimes
+unfolding allTimes each
 loop-holds c =
     let s = c .before .before .before in
     let t = s .args .t1 in
