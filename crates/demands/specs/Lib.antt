@@ -6,5 +6,7 @@ pub mod Demand2
 pub mod Demand3
 pub mod Tables
 pub mod Unique
+pub mod Codes
+pub mod GoodTables
 pub mod Samples
 pub mod Demands
