@@ -19,5 +19,7 @@ pub mod Codes
 pub mod Opened
 pub mod GoodRows
 pub mod Zeros
+pub mod SampleB
+pub mod Printing
 pub mod Samples
 pub mod Demands
