@@ -17,7 +17,6 @@ use Rattle.table.specs.declared.Row.{Row}
 use Rattle.table.specs.declared.Rule.{Rule}
 use Rattle.table.specs.declared.Rule.the-variants as R
 use Rattle.table.specs.declared.Verdict.{Verdict}
-use Rattle.table.specs.declared.Verdict.the-variants as C
 use Rattle.table.specs.Verdicts.{codeOf}
 use Rattle.table.specs.Fields.{field, partCount, head, time}
 use Rattle.table.specs.Memory.{rowOf, allTimes}
@@ -29,6 +28,7 @@ use Rattle.demands.specs.Rules.{CooperativeAbove, Breaks, Clashes, None,
 use Rattle.demands.specs.GoodTables.{Against, GoodRows, GoodTables}
 use Rattle.demands.proofs.ClashRule.{rule-clashes}
 use Rattle.demands.proofs.FileRule.{read-good}
+use Rattle.demands.proofs.Placed.{place-made, made-place}
 use Rattle.demands.proofs.GoodFile.{good-tasks, few-times, task-good}
 
 -- ---- a file that is written has bytes
@@ -68,20 +68,6 @@ unfolding encodeFile
 bytes-file tasks = bytes-numbers _
 
 -- ---- the clashes of rows are those of their tasks
-
--- what is made of an element stands where it stands
-place-made : {A B : Type 0} (f : A → B) (xs : List A) (i : ℕ) (x : A) → Place xs i x → Place (map f xs) i (f x)
-unfolding Place
-place-made f [] i x p = absurd p
-place-made f (y ∷ ys) zero x p = ap f p
-place-made f (y ∷ ys) (suc i) x p = place-made f ys i x p
-
--- and what stands there was made of it
-made-place : {A B : Type 0} (f : A → B) (xs : List A) (i : ℕ) (z : B) → Place (map f xs) i z → (x : A) × Place xs i x × (f x ≡ z)
-unfolding Place
-made-place f [] i z p = absurd p
-made-place f (y ∷ ys) zero z p = (y, refl, p)
-made-place f (y ∷ ys) (suc i) z p = made-place f ys i z p
 
 -- whichever of two tasks is the earlier, their rows break a rule
 against-breaks : {a b : Task} → Against a b → (rule : Rule) × Breaks rule (rowOf b) (rowOf a) × Breaks rule (rowOf a) (rowOf b)

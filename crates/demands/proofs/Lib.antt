@@ -18,7 +18,7 @@ pub mod Demand3
 pub mod Codes
 pub mod Opened
 pub mod GoodRows
-pub mod Zeros
+pub mod AfterReading
 pub mod SampleB
 pub mod Printing
 pub mod Samples

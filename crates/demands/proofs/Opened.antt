@@ -29,9 +29,14 @@ unfoldable pub bytes-read : ℕ
 unfolding numbers rules head allTimes reading.rowAt reading.rowsAt reading.endAt reading.decode
 bytes-read = 0
 
+-- sums over rows
+sums : ℕ
+unfolding keep total sum largest parts part partsBefore cost bounds.preemptive bounds.cooperative bounds.higher bounds.lower
+sums = 0
+
 -- the right sides of the equations
 unfoldable pub sides : ℕ
-unfolding keep total sum largest parts part partsBefore cost bounds.limit bounds.preemptive bounds.cooperative bounds.higher bounds.lower bounds.blocking bounds.demand
+unfolding sums bounds.limit bounds.blocking bounds.demand
 sides = 0
 
 -- their least solutions
@@ -59,9 +64,14 @@ unfoldable pub core-said : ℕ
 unfolding rows-picked analysis.named analysis.roomSaid analysis.coreSaid
 core-said = 0
 
--- the answer and the room, once the bounds are known
+-- the bounds of a core in order, once each is known
+bounds-listed : ℕ
+unfolding analysis.boundsOf bounds.rowBounds listed
+bounds-listed = 0
+
+-- the answer and the room
 unfoldable pub answer-given : ℕ
-unfolding core-said analysis.fileSaid analysis.fileRows analysis.writes analysis.answered analysis.roomAfter analysis.boundsOf bounds.rowBounds listed
+unfolding core-said bounds-listed analysis.fileSaid analysis.fileRows analysis.writes analysis.answered analysis.roomAfter
 answer-given = 0
 
 -- lines of text

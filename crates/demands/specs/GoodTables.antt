@@ -1,4 +1,4 @@
--- Document 01, "The table": what the tasks of a good file are, in its numbers and words, both ways; and the zeros behind them.
+-- Document 01, "The table": what the tasks of a good file are, in its numbers and words, both ways.
 use Prim.Native.Nat.{ℕ, _≤_, _<_}
 use mathlib.Core.Path.{_≡_}
 use mathlib.Core.Logic.{_↔_}
@@ -8,10 +8,7 @@ use Rattle.lists.specs.Lists.{total, Place}
 use Rattle.numbers.specs.Numbers.{Bytes}
 use Rattle.model.specs.Task.{Task, parts}
 use Rattle.model.specs.Rows.{GoodTask}
-use Rattle.table.specs.declared.Row.{Row}
-use Rattle.table.specs.declared.Table.{Table}
-use Rattle.table.specs.Verdicts.{codeOf}
-use Rattle.files.specs.Reading.{go, decode, readAnswer}
+use Rattle.files.specs.Reading.{go, decode}
 use Rattle.demands.specs.Rules.{GoodFile}
 
 -- two rows that may not both stand in a table
@@ -37,25 +34,3 @@ GoodTables = (tasks : List Task) → ((s : List ℕ) × Bytes s × GoodFile s ta
 -- no rows is a good table
 abbrev pub NoRowsIsGood : Type 0
 NoRowsIsGood = decode (0 ∷ []) ≡ go [] 1
-
--- a row of zeros
-pub record AllZero (r : Row) : Type 0 where
-  pub id : r .id ≡ 0
-  pub core : r .core ≡ 0
-  pub kind : r .kind ≡ 0
-  pub priority : r .priority ≡ 0
-  pub period : r .period ≡ 0
-  pub deadline : r .deadline ≡ 0
-  pub parts : r .parts ≡ 0
-
--- a table of 64 rows and 1,024 times that uses so many of each: every place behind them is zero
-pub record ZeroBehind (rows times : ℕ) (t : Table) : Type 0 where
-  pub count : t .count ≡ rows
-  pub places : (length (t .rows) ≡ 64) × (length (t .times) ≡ 1024)
-  pub row : (i : ℕ) (r : Row) → rows ≤ i → Place (t .rows) i r → AllZero r
-  pub time : (i x : ℕ) → times ≤ i → Place (t .times) i x → x ≡ 0
-
--- a refused read gives a table of zeros; after a good one, unused rows and the rest of the times are all zero
-pub record Zeros : Type 0 where
-  pub refused : (s : List ℕ) → (codeOf (readAnswer s .verdict) ≡ 0 → ⊥) → ZeroBehind 0 0 (readAnswer s .table)
-  pub unused : (s : List ℕ) (tasks : List Task) → GoodFile s tasks → ZeroBehind (length tasks) (total parts tasks) (readAnswer s .table)

@@ -8,6 +8,7 @@ pub mod Tables
 pub mod Unique
 pub mod Codes
 pub mod GoodTables
+pub mod AfterReading
 pub mod SampleB
 pub mod Printing
 pub mod Samples
