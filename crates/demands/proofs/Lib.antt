@@ -15,5 +15,11 @@ pub mod Least
 pub mod Passed
 pub mod Demand2
 pub mod Demand3
+pub mod Codes
+pub mod Opened
+pub mod GoodRows
+pub mod AfterReading
+pub mod SampleB
+pub mod Printing
 pub mod Samples
 pub mod Demands

@@ -19,9 +19,9 @@ gives-one v rows room r q left other a b = (same _ r q (a .answer) (b .answer), 
 pub unique : Unique
 unique =
     record {
-      analyses = λ s core room. gives-one _ _ room;
-      table = λ t core room. gives-one _ _ room;
-      wrote = λ t out r q left other a b. (same _ r q (a .answer) (b .answer), same _ left other (a .bytes) (b .bytes));
       put = λ v out r q left other a b. (same _ r q (a .size) (b .size), same _ left other (a .bytes) (b .bytes));
-      equation = λ A. same;
+      wrote = λ t out r q left other a b. (same _ r q (a .answer) (b .answer), same _ left other (a .bytes) (b .bytes));
+      table = λ t core room. gives-one _ _ room;
+      analyses = λ s core room. gives-one _ _ room;
+      prints = λ s out r q left other a b. (same _ r q (a .answer) (b .answer), same _ left other (a .bytes) (b .bytes));
     }

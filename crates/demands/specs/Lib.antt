@@ -6,5 +6,10 @@ pub mod Demand2
 pub mod Demand3
 pub mod Tables
 pub mod Unique
+pub mod Codes
+pub mod GoodTables
+pub mod AfterReading
+pub mod SampleB
+pub mod Printing
 pub mod Samples
 pub mod Demands
