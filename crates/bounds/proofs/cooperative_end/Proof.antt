@@ -30,12 +30,12 @@ add-search-2 c = omega (arith, small c)
 search-requires : tie.Need-search-requires
 search-requires c κs =
     let a = c .before .before .pre in
-    (highers-summed a, (omega (arith, small c), begins a 1))
+    (highers-summed a, (omega (arith, small c), begins a _))
 
 value-of-requires : tie.Need-value-of-requires
 value-of-requires c κs = search needs
 
--- what the first search answers
+-- the first search answers with the tick after the start
 answered : (c : tie.After-value-of)
     → c .value-of .result
     ≡ solution (c .before .before .before .before .args .higher .now) (c .before .before .before .before .args .base + 1)
