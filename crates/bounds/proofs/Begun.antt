@@ -22,19 +22,20 @@ use Rattle.model.proofs.Rows.{period-pos, preemptive-higher}
 use Rattle.model.proofs.Demand.{work, workThrough, work-mono, work-suc}
 use Rattle.model.proofs.Exists.{higher-periods, cooperative-range, finish-cooperative}
 use Rattle.bounds.specs.Loads.{workAt, side, searched, solution}
-use Rattle.bounds.specs.Promises.{Warm, AtPart, endFromStart, endOfPart}
+use Rattle.bounds.specs.Promises.{Warm, Seen, AtPart, endFromStart, endOfPart}
 use Rattle.bounds.proofs.Walk.{IsEnd, preemptive-work, time-pos, window-small, solved, reached}
 
 -- what the code works out from the tick after the start is in range, and the search for the end begins where it may
-pub record StartRange (pre : List ℕ) (time after : ℕ) : Type 0 where
+pub record StartRange (preempts : List ℕ) (time after : ℕ) : Type 0 where
   pub some : 1 ≤ after
   pub small : after ≤ 16777215
-  pub behind : workAt pre after ≤ after - 1
+  pub behind : workAt preempts after ≤ after - 1
   pub early : after - 1 + time ≤ 16777215
-  pub begins : after - 1 + time ≤ side pre (after - 1 + time - workAt pre after) (after - 1 + time)
+  pub begins : after - 1 + time ≤ side preempts (after - 1 + time - workAt preempts after) (after - 1 + time)
 
-module _ {above pre : List ℕ} {base from time : ℕ} (a : AtPart above pre true base from time) where
-  open AtPart a using (rows, t, L, j, r, seen)
+module _ {highers preempts : List ℕ} {base from time : ℕ} (a : AtPart highers preempts true base from time) where
+  open AtPart a using (seen, j, r)
+  open Seen seen using (rows, t, L, core, row, windowed)
 
   -- the row is cooperative
   kind : cooperative t ≡ true
@@ -42,13 +43,17 @@ module _ {above pre : List ℕ} {base from time : ℕ} (a : AtPart above pre tru
 
   -- its start and its end exist
   range : CooperativeRange rows t L r j
-  range = cooperative-range rows (seen .core) t (seen .row) L (seen .windowed) r j (a .within) (a .inside) kind
+  range = cooperative-range rows core t row L windowed r j (a .within) (a .inside) kind
 
   open CooperativeRange range using (s, f)
 
+  -- the tick before the one after it
+  one : suc s - 1 ≡ s
+  one = omega arith
+
   -- the work through a tick is the work before the next
   next-work : (x : ℕ) → workThrough (higher rows t) x ≡ work (higher rows t) (suc x)
-  next-work x = work-suc (higher rows t) (higher-periods rows (seen .core) t (seen .row) L (seen .windowed)) x
+  next-work x = work-suc (higher rows t) (higher-periods rows core t row L windowed) x
 
   -- the start's equation, for the number after it
   sides : (x : ℕ) → suc (blocking rows t + workThrough (higher rows t) x + j * cost t + partsBefore t r)
@@ -72,30 +77,30 @@ module _ {above pre : List ℕ} {base from time : ℕ} (a : AtPart above pre tru
       }
 
   -- so the search answers with it
-  started : solution above (base + 1) (from + 1) ≡ suc s
+  started : solution highers (base + 1) (from + 1) ≡ suc s
   started = solved a 1 (suc s) the-start
 
   -- the preemptive rows' work through the start lies before it
-  behind-start : workAt pre (suc s) ≤ s
+  behind-start : workAt preempts (suc s) ≤ s
   unfolding start higher
   behind-start =
       omega (
         arith,
         preemptive-work a (suc s),
         total-wider preemptive (λ u. ltb (t .priority) (u .priority)) (λ u. before u (suc s) * cost u) rows
-            (λ u m p. lt-ltb _ _ (preemptive-higher rows (seen .core) t (seen .row) kind u m p)),
+            (λ u m p. lt-ltb _ _ (preemptive-higher rows core t row kind u m p)),
         least-at _ 0 limit (range .starts) .solves,
         next-work s,
       )
 
   -- the preemptive rows' work before a later tick is what came through the start and what came in after it
   split : (z : ℕ) → s < z
-      → total (λ u. (before u z - through u s) * cost u) (keep preemptive rows) + workAt pre (suc s) ≡ workAt pre z
+      → total (λ u. (before u z - through u s) * cost u) (keep preemptive rows) + workAt preempts (suc s) ≡ workAt preempts z
   split z h =
       ap (_+_ _) (preemptive-work a (suc s))
       ∙ sym (total-add _ _ (keep preemptive rows))
       ∙ total-same _ _ (keep preemptive rows)
-      (λ u m. each u (period-pos rows (seen .core) u (kept preemptive rows u m .0)))
+      (λ u m. each u (period-pos rows core u (kept preemptive rows u m .0)))
       ∙ sym (preemptive-work a z)
     where
       each : (u : Task) → 0 < u .period
@@ -105,7 +110,7 @@ module _ {above pre : List ℕ} {base from time : ℕ} (a : AtPart above pre tru
           ∙ ap (λ (n : ℕ). n * cost u) (omega (arith, before-suc u p s, through-before u p s z h))
 
   -- what the code works out from the start
-  pub start-range : (after : ℕ) → after ≡ solution above (base + 1) (from + 1) → StartRange pre time after
+  pub start-range : (after : ℕ) → after ≡ solution highers (base + 1) (from + 1) → StartRange preempts time after
   start-range after is =
       rw (is ∙ started)
       record {
@@ -115,32 +120,26 @@ module _ {above pre : List ℕ} {base from time : ℕ} (a : AtPart above pre tru
         early = omega (arith, range .takes, range .within, window-small a, a .timed);
         begins = rw one (omega (arith, split (s + time) (omega (arith, time-pos a)), behind-start));
       }
-    where
-      one : suc s - 1 ≡ s
-      one = omega arith
 
   -- the second search answers with the end
-  ended : endOfPart above pre true base from time ≡ record { end = f; next = s + time }
+  ended : endOfPart highers preempts true base from time ≡ record { end = f; next = s + time }
   unfolding endOfPart endFromStart endFrom searched value limit
   ended = rw (started, one) (ap (λ (e : ℕ). record { end = e; next = s + time }) (ap value found))
     where
-      one : suc s - 1 ≡ s
-      one = omega arith
-
       -- the two right sides are the same
       ends : (z : ℕ) → s + part t r ≤ z
-          → side pre (s + time - workAt pre (suc s)) z
+          → side preempts (s + time - workAt preempts (suc s)) z
           ≡ s + part t r + total (λ u. (before u z - through u s) * cost u) (keep preemptive rows)
       ends z h = omega (arith, a .timed, behind-start, split z (omega (arith, a .timed, time-pos a)))
 
-      found : least (side pre (s + time - workAt pre (suc s))) (s + time) limit ≡ At f
+      found : least (side preempts (s + time - workAt preempts (suc s))) (s + time) limit ≡ At f
       found =
-          ap (λ (n : ℕ). least (side pre (s + time - workAt pre (suc s))) (s + n) limit) (a .timed)
+          ap (λ (n : ℕ). least (side preempts (s + time - workAt preempts (suc s))) (s + n) limit) (a .timed)
           ∙ least-same _ _ (s + part t r) limit ends ∙ range .ends
 
   -- a cooperative part: the searches answer with its end
-  pub cooperative-ends : IsEnd rows t j r (base + time) (endOfPart above pre true base from time)
-  cooperative-ends =
+  pub cooperative-found : IsEnd a (endOfPart highers preempts true base from time)
+  cooperative-found =
       rw ended
       record {
         ends = finish-cooperative rows t r j kind ∙ ap (endFrom rows t r j) (range .starts) ∙ range .ends;

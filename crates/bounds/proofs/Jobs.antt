@@ -14,18 +14,19 @@ use Rattle.model.specs.Bounds.{finish, response}
 use Rattle.model.proofs.Parts.{parts-zero, parts-all}
 use Rattle.model.proofs.Exists.{window-most, finish-range}
 use Rattle.bounds.specs.declared.Job.{Job}
-use Rattle.bounds.specs.Promises.{Warm, AtJob, AtPart, endOfPart, baseAt, fromAt, endAt, jobNext}
-use Rattle.bounds.proofs.Walk.{IsEnd, preemptive-ends}
-use Rattle.bounds.proofs.Begun.{cooperative-ends}
+use Rattle.bounds.specs.Promises.{Warm, Seen, AtJob, AtPart, endOfPart, baseAt, fromAt, partEndAt, jobNext}
+use Rattle.bounds.proofs.Walk.{IsEnd, preemptive-found}
+use Rattle.bounds.proofs.Begun.{cooperative-found}
 
 -- a part of either kind ends where its searches say
-part-ends : {above pre : List ℕ} {coop : Bool} {base from time : ℕ} (a : AtPart above pre coop base from time)
-    → IsEnd (a .rows) (a .t) (a .j) (a .r) (base + time) (endOfPart above pre coop base from time)
-part-ends {coop = true} a = cooperative-ends a
-part-ends {coop = false} a = preemptive-ends a
+part-ends : {highers preempts : List ℕ} {coop : Bool} {base from time : ℕ} (a : AtPart highers preempts coop base from time)
+    → IsEnd a (endOfPart highers preempts coop base from time)
+part-ends {coop = true} a = cooperative-found a
+part-ends {coop = false} a = preemptive-found a
 
-module _ {above pre : List ℕ} {coop : Bool} {job : Job} {times : List ℕ} (a : AtJob above pre coop job times) where
-  open AtJob a using (rows, t, L, j, seen)
+module _ {highers preempts : List ℕ} {coop : Bool} {job : Job} {times : List ℕ} (a : AtJob highers preempts coop job times) where
+  open AtJob a using (seen, j)
+  open Seen seen using (rows, t, L, core, row, windowed)
 
   -- there is a time for each part
   pub count : length times ≡ parts t
@@ -43,16 +44,13 @@ module _ {above pre : List ℕ} {coop : Bool} {job : Job} {times : List ℕ} (a 
   time-is r = ap (λ (xs : List ℕ). getD xs r 0) (a .timed)
 
   -- the job stands before part r
-  abbrev standing : (r : ℕ) → r < length times → Warm rows t (baseAt job times r) (fromAt above pre coop job times r)
-      → AtPart above pre coop (baseAt job times r) (fromAt above pre coop job times r) (getD times r 0)
+  abbrev standing : (r : ℕ) → r < length times → Warm rows t (baseAt job times r) (fromAt highers preempts coop job times r)
+      → AtPart highers preempts coop (baseAt job times r) (fromAt highers preempts coop job times r) (getD times r 0)
   standing r h w =
       record {
-        rows = rows;
-        t = t;
-        L = L;
+        seen = seen;
         j = j;
         r = r;
-        seen = seen;
         inside = a .inside;
         within = omega (arith, count);
         done = omega (arith, sum-is r, a .done);
@@ -61,41 +59,41 @@ module _ {above pre : List ℕ} {coop : Bool} {job : Job} {times : List ℕ} (a 
       }
 
   -- its search begins where it may
-  part-warm : (r : ℕ) → r ≤ length times → Warm rows t (baseAt job times r) (fromAt above pre coop job times r)
+  part-warm : (r : ℕ) → r ≤ length times → Warm rows t (baseAt job times r) (fromAt highers preempts coop job times r)
   unfolding fromAt
   part-warm zero h =
       subst (λ (b : ℕ). Warm rows t b (job .from)) (omega (arith, sum-is 0, parts-zero t)) (a .warm)
   part-warm (suc r) h =
-      subst (λ (b : ℕ). Warm rows t b (fromAt above pre coop job times (suc r))) (omega (arith, sum-suc times r))
+      subst (λ (b : ℕ). Warm rows t b (fromAt highers preempts coop job times (suc r))) (omega (arith, sum-suc times r))
       (part-ends (standing r (omega arith) (part-warm r (omega arith))) .warm)
 
   -- so it does for the next job
-  pub job-warm : Warm rows t (job .base + cost t) (jobNext above pre coop job times)
+  pub job-warm : Warm rows t (job .base + cost t) (jobNext highers preempts coop job times)
   job-warm =
-      subst (λ (b : ℕ). Warm rows t b (jobNext above pre coop job times))
+      subst (λ (b : ℕ). Warm rows t b (jobNext highers preempts coop job times))
       (omega (arith, sum-is (length times), parts-all t (length times) (omega (arith, count))))
       (part-warm (length times) (omega arith))
 
   module _ (r : ℕ) (h : r < length times) where
     -- what the code stands before
-    pub at-part : AtPart above pre coop (baseAt job times r) (fromAt above pre coop job times r) (getD times r 0)
+    pub at-part : AtPart highers preempts coop (baseAt job times r) (fromAt highers preempts coop job times r) (getD times r 0)
     at-part = standing r h (part-warm r (omega arith))
 
     -- the part's end
-    part-ended : finish rows t r j ≡ At (endAt above pre coop job times r)
+    part-ended : finish rows t r j ≡ At (partEndAt highers preempts coop job times r)
     part-ended = part-ends (standing r h (part-warm r (omega arith))) .ends
 
     -- lies after the release and within the limit
-    pub end-range : (job .release ≤ endAt above pre coop job times r) × (endAt above pre coop job times r ≤ 16777215)
+    pub end-range : (job .release ≤ partEndAt highers preempts coop job times r) × (partEndAt highers preempts coop job times r ≤ 16777215)
     end-range =
-        let range = finish-range rows (seen .core) t (seen .row) L (seen .windowed) r j (omega (arith, count)) (a .inside) in
-        let found : At (endAt above pre coop job times r) ≡ At (range .f) = sym part-ended ∙ range .ends in
-        let same : endAt above pre coop job times r ≡ range .f = cc in (
+        let range = finish-range rows core t row L windowed r j (omega (arith, count)) (a .inside) in
+        let found : At (partEndAt highers preempts coop job times r) ≡ At (range .f) = sym part-ended ∙ range .ends in
+        let same : partEndAt highers preempts coop job times r ≡ range .f = cc in (
           omega (arith, a .released, range .late),
-          omega (arith, range .within, window-most rows (seen .core) t (seen .row) L (seen .windowed)),
+          omega (arith, range .within, window-most rows core t row L windowed),
         )
 
     -- and its response is what the code works out
-    pub response-is : endAt above pre coop job times r - job .release ≡ response rows t r j
+    pub response-is : partEndAt highers preempts coop job times r - job .release ≡ response rows t r j
     unfolding response value
     response-is = omega (arith, a .released, ap value part-ended)

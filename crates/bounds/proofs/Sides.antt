@@ -1,6 +1,6 @@
 -- The work of rows that stand side by side: taken row by row, never falling, bounded, and the work of the rows they stand for.
-use Prim.Native.Nat.{ℕ, zero, suc, _+_, _-_, _*_, _/_, _≤_, _<_}
-use mathlib.Core.Path.{_≡_, refl, ap}
+use Prim.Native.Nat.{ℕ, suc, _+_, _-_, _*_, _/_, _≤_, _<_}
+use mathlib.Core.Path.{_≡_, refl, ap, subst, _∙_}
 use mathlib.Core.List.{List, [], _∷_, List·Memᴰ·head, List·Memᴰ·tail, List·Memᴰ·cases-cons}
 use mathlib.Core.Bool.{Bool}
 use mathlib.Core.Logic.{⊎-elim}
@@ -10,6 +10,7 @@ use native.Mathlib.Omega.{arith}
 use lib.ListN.{length, getD, drop, drop-of-length-le}
 use lib.Dec.{ltb}
 use borrow.Author.Tests.{le-ltb}
+use lib.Seq.{drop-cons}
 use Rattle.lists.specs.Lists.{_∈_, keep, each, total}
 use Rattle.lists.proofs.Keep.{kept, keep-length, keep-fewer}
 use Rattle.lists.proofs.Tests.{either}
@@ -22,23 +23,6 @@ use Rattle.model.proofs.Rows.{higher-in}
 use Rattle.model.proofs.Parts.{cost-most}
 use Rattle.bounds.specs.Loads.{loads, InRange, Summable, workAt, side}
 
--- the row whose period stands at i: its cost stands behind it, and the other rows after that
-record RowAt (rows : List ℕ) (i x : ℕ) : Type 0 where
-  whole : suc i < length rows
-  period : 1 ≤ getD rows i 0
-  ranged : InRange (drop (suc (suc i)) rows)
-  worked : workAt (drop i rows) x ≡ up x (getD rows i 0) * getD rows (suc i) 0 + workAt (drop (suc (suc i)) rows) x
-
--- there is one wherever rows in range go on
-row-at : (rows : List ℕ) (i x : ℕ) → i < length rows → InRange (drop i rows) → RowAt rows i x
-unfolding InRange workAt
-row-at [] i x h r = absurd (omega arith)
-row-at (t ∷ []) zero x h r = absurd r
-row-at (t ∷ c ∷ more) zero x h r = record { whole = omega arith; period = r .0; ranged = r .2; worked = refl }
-row-at (t ∷ rows) (suc i) x h r =
-    let p = row-at rows i x (omega arith) r in
-    record { whole = omega (arith, p .whole); period = p .period; ranged = p .ranged; worked = p .worked }
-
 -- one turn of a sum over the rows, as the code works it out
 pub record Turn (rows : List ℕ) (x sum i : ℕ) : Type 0 where
   pub whole : i + 1 < length rows
@@ -49,14 +33,20 @@ pub record Turn (rows : List ℕ) (x sum i : ℕ) : Type 0 where
 -- the sum so far, with the work of the rows from i on, is the whole work: so it is after the turn
 pub work-turn : (rows : List ℕ) (x sum i : ℕ) → i < length rows → InRange (drop i rows)
     → sum + workAt (drop i rows) x ≡ workAt rows x → Turn rows x sum i
+unfolding InRange workAt
 work-turn rows x sum i h r e =
-    let p = row-at rows i x h r in
+    let period-first : drop i rows ≡ getD rows i 0 ∷ drop (suc i) rows = drop-cons rows i 0 h in
+    let whole : suc i < length rows =
+    ⊎-elim (λ k. k) (λ k. absurd (rw (period-first, drop-of-length-le rows k) at r)) (either (suc i) (length rows)) in
+    let split : drop i rows ≡ getD rows i 0 ∷ getD rows (suc i) 0 ∷ drop (suc (suc i)) rows =
+    period-first ∙ ap (_∷_ (getD rows i 0)) (drop-cons rows (suc i) 0 whole) in
+    let ranged = subst InRange split r in
     let two : i + 2 ≡ suc (suc i) = omega arith in
     record {
-      whole = omega (arith, p .whole);
-      period = p .period;
-      ranged = rw two (p .ranged);
-      same = rw (two, add-one, ← up-is x (getD rows i 0)) (omega (arith, p .worked));
+      whole = omega arith;
+      period = ranged .0;
+      ranged = rw two (ranged .2);
+      same = rw (two, add-one, ← up-is x (getD rows i 0)) (omega (arith, ap (λ (l : List ℕ). workAt l x) split));
     }
 
 -- past the last row there is no work
@@ -141,9 +131,10 @@ summable-own rows core t m =
 -- the first row's search begins at its C, which lies behind its period, and which the right side takes no lower
 pub own-begins : (rows : List ℕ) → Summable rows → 0 < length rows → (base : ℕ)
     → (1 < length rows) × (getD rows 1 0 ≤ side rows base (getD rows 1 0))
-own-begins rows r h base =
-    let c : ℕ = getD rows 1 0 in
-    let p = row-at rows 0 c h (r .ranged) in
-    let some : 0 < c → 1 * c ≤ up c (getD rows 0 0) * c =
-    (λ k. mul-le-mul-right c (rw (up-is c (getD rows 0 0)) (le-div-iff-mul-le (p .period) .1 (omega (arith, p .period))))) in
-    (p .whole, ⊎-elim (λ k. omega (arith, p .worked, some k)) (λ k. omega arith) (either 0 c))
+unfolding InRange workAt
+own-begins [] r h base = absurd (omega arith)
+own-begins (t ∷ []) r h base = absurd (r .ranged)
+own-begins (t ∷ c ∷ more) r h base =
+    let some : 0 < c → 1 * c ≤ up c t * c =
+    (λ k. mul-le-mul-right c (rw (up-is c t) (le-div-iff-mul-le (r .ranged .0) .1 (omega (arith, r .ranged .0))))) in
+    (omega arith, ⊎-elim (λ k. omega (arith, some k)) (λ k. omega arith) (either 0 c))

@@ -6,7 +6,7 @@ use mathlib.Core.List.{List}
 use native.Mathlib.Omega.{arith}
 use Rattle.lists.specs.Lists.{keep}
 use Rattle.model.specs.declared.Found.the-variants.{At}
-use Rattle.model.specs.Task.{Task, cost, partsBefore}
+use Rattle.model.specs.Task.{cost, partsBefore}
 use Rattle.model.specs.Least.{value, IsLeast}
 use Rattle.model.proofs.Ranges.{PreemptiveRange}
 use Rattle.model.specs.Bounds.{limit, preemptive, cooperative, higher, preemptiveEnd, finish}
@@ -18,35 +18,38 @@ use Rattle.model.proofs.Demand.{work, work-mono}
 use Rattle.model.proofs.Exists.{window-most, inside, preemptive-range, finish-preemptive}
 use Rattle.bounds.specs.declared.PartEnd.{PartEnd}
 use Rattle.bounds.specs.Loads.{Summable, workAt, side, searched, solution}
-use Rattle.bounds.specs.Promises.{Warm, AtPart, endOfPart}
+use Rattle.bounds.specs.Promises.{Warm, Seen, AtPart, endOfPart}
 use Rattle.bounds.proofs.Sides.{work-loads, summable-keep}
 
 -- a part's end, and where the next search may begin
-pub record IsEnd (rows : List Task) (t : Task) (j r after : ℕ) (p : PartEnd) : Type 0 where
-  pub ends : finish rows t r j ≡ At (p .end)
-  pub warm : Warm rows t after (p .next)
+pub record IsEnd {hs ps : List ℕ} {coop : Bool} {base from time : ℕ} (a : AtPart hs ps coop base from time) (p : PartEnd) : Type 0 where
+  pub ends : finish (a .seen .rows) (a .seen .t) (a .r) (a .j) ≡ At (p .end)
+  pub warm : Warm (a .seen .rows) (a .seen .t) (base + time) (p .next)
 
-module _ {above pre : List ℕ} {coop : Bool} {base from time : ℕ} (a : AtPart above pre coop base from time) where
-  open AtPart a using (rows, t, L, j, r, seen)
+module _ {highers preempts : List ℕ} {coop : Bool} {base from time : ℕ} (a : AtPart highers preempts coop base from time) where
+  open AtPart a using (seen, j, r)
+  open Seen seen using (rows, t, L, core, row, windowed)
 
   -- the slices can be summed
-  pub highers-summed : Summable above
+  pub highers-summed : Summable highers
   unfolding higher
-  highers-summed = rw (seen .highers) (summable-keep rows (seen .core) _)
+  highers-summed = rw (seen .higher-is) (summable-keep rows core _)
 
-  pub preemptives-summed : Summable pre
-  preemptives-summed = rw (seen .preemptives) (summable-keep rows (seen .core) preemptive)
+  -- those of the preemptive rows too
+  pub preemptives-summed : Summable preempts
+  preemptives-summed = rw (seen .preemptive-is) (summable-keep rows core preemptive)
 
   -- their work is that of the rows
-  higher-work : (y : ℕ) → workAt above y ≡ work (higher rows t) y
-  higher-work y = rw (seen .highers) (work-loads (higher rows t) y)
+  higher-work : (y : ℕ) → workAt highers y ≡ work (higher rows t) y
+  higher-work y = ap (λ (l : List ℕ). workAt l y) (seen .higher-is) ∙ work-loads (higher rows t) y
 
-  pub preemptive-work : (y : ℕ) → workAt pre y ≡ work (keep preemptive rows) y
-  preemptive-work y = rw (seen .preemptives) (work-loads (keep preemptive rows) y)
+  -- theirs too
+  pub preemptive-work : (y : ℕ) → workAt preempts y ≡ work (keep preemptive rows) y
+  preemptive-work y = ap (λ (l : List ℕ). workAt l y) (seen .preemptive-is) ∙ work-loads (keep preemptive rows) y
 
   -- the part takes time
   pub time-pos : 0 < time
-  time-pos = omega (arith, a .timed, part-pos t (seen .core .good t (seen .row)) r (a .within))
+  time-pos = omega (arith, a .timed, part-pos t (core .good t row) r (a .within))
 
   -- what is before the part and the part fit in the window, with the higher rows' work
   fits : base + time + work (higher rows t) L ≤ L
@@ -55,17 +58,17 @@ module _ {above pre : List ℕ} {coop : Bool} {base from time : ℕ} (a : AtPart
         arith,
         a .timed,
         a .done,
-        part-fits t (seen .core .good t (seen .row)) r,
-        inside rows (seen .core) t (seen .row) L (seen .windowed) j (a .inside),
+        part-fits t (core .good t row) r,
+        inside rows core t row L windowed j (a .inside),
       )
 
   -- the window is at most the limit
   pub window-small : L ≤ 16777215
-  window-small = window-most rows (seen .core) t (seen .row) L (seen .windowed)
+  window-small = window-most rows core t row L windowed
 
   -- so what the code adds is small
-  pub in-range : (base + time ≤ 16777215) × (from ≤ 16777215) × (0 < time)
-  in-range = (
+  pub sums-small : (base + time ≤ 16777215) × (from ≤ 16777215) × (0 < time)
+  sums-small = (
     omega (arith, fits, window-small),
     omega (arith, a .warm .low L (omega arith) (omega (arith, fits)), window-small),
     time-pos,
@@ -76,11 +79,11 @@ module _ {above pre : List ℕ} {coop : Bool} {base from time : ℕ} (a : AtPart
   shifted c = under-shift (work (higher rows t)) (work-mono (higher rows t)) base c from (a .warm)
 
   -- and there the right side lies no lower
-  pub begins : (c : ℕ) → from + c ≤ side above (base + c) (from + c)
+  pub begins : (c : ℕ) → from + c ≤ side highers (base + c) (from + c)
   begins c = omega (arith, shifted c .rises, higher-work (from + c))
 
   -- a least solution over the higher rows is what the search over the slice answers
-  pub solved : (c y : ℕ) → IsLeast (λ z. base + c + work (higher rows t) z) 0 limit y → solution above (base + c) (from + c) ≡ y
+  pub solved : (c y : ℕ) → IsLeast (λ z. base + c + work (higher rows t) z) 0 limit y → solution highers (base + c) (from + c) ≡ y
   unfolding limit searched value
   solved c y l =
       ap value
@@ -91,36 +94,37 @@ module _ {above pre : List ℕ} {coop : Bool} {base from time : ℕ} (a : AtPart
   pub reached : (c y : ℕ) → IsLeast (λ z. base + c + work (higher rows t) z) 0 limit y → Warm rows t (base + c) y
   reached c y l = least-under _ 0 (λ x z h. omega (arith, work-mono (higher rows t) x z h)) (omega arith) limit y l
 
--- a preemptive part: the search answers with its end
-pub preemptive-ends : {above pre : List ℕ} {base from time : ℕ} (a : AtPart above pre false base from time)
-    → IsEnd (a .rows) (a .t) (a .j) (a .r) (base + time) (endOfPart above pre false base from time)
-unfolding endOfPart preemptiveEnd
-preemptive-ends {above} {pre} {base} {from} {time} a =
-    rw (solved a time (range .f) the-end)
-    record {
-      ends = finish-preemptive (a .rows) (a .t) (a .r) (a .j) kind ∙ range .ends;
-      warm = reached a time (range .f) the-end;
-    }
-  where
-    kind : cooperative (a .t) ≡ false
-    kind = sym (a .seen .kind)
+module _ {highers preempts : List ℕ} {base from time : ℕ} (a : AtPart highers preempts false base from time) where
+  open AtPart a using (seen, j, r)
+  open Seen seen using (rows, t, L, core, row, windowed)
 
-    range : PreemptiveRange (a .rows) (a .t) (a .L) (a .r) (a .j)
-    range =
-        preemptive-range (a .rows) (a .seen .core) (a .t) (a .seen .row) (a .L) (a .seen .windowed) (a .r) (a .j)
-        (a .within) (a .inside) kind
+  -- a row that is not cooperative
+  kind : cooperative t ≡ false
+  kind = sym (seen .kind)
 
-    -- the two right sides are the same
-    sides : (z : ℕ) → work (higher (a .rows) (a .t)) z + a .j * cost (a .t) + partsBefore (a .t) (suc (a .r))
-        ≡ base + time + work (higher (a .rows) (a .t)) z
-    sides z = omega (arith, a .done, a .timed, parts-suc (a .t) (a .r), no-blocking (a .rows) (a .t) kind)
+  -- its end exists
+  range : PreemptiveRange rows t L r j
+  range = preemptive-range rows core t row L windowed r j (a .within) (a .inside) kind
 
-    the-end : IsLeast (λ z. base + time + work (higher (a .rows) (a .t)) z) 0 limit (range .f)
-    the-end =
-        let l = least-at _ 1 limit (range .ends) in
-        record {
-          above = omega arith;
-          within = l .within;
-          solves = l .solves ∙ sides (range .f);
-          first = λ z b c d. l .first z (omega (arith, time-pos a)) c (d ∙ sym (sides z));
-        }
+  -- its equation is the search's
+  sides : (z : ℕ) → work (higher rows t) z + j * cost t + partsBefore t (suc r) ≡ base + time + work (higher rows t) z
+  sides z = omega (arith, a .done, a .timed, parts-suc t r, no-blocking rows t kind)
+
+  -- so it is the least solution that the search looks for
+  the-end : IsLeast (λ z. base + time + work (higher rows t) z) 0 limit (range .f)
+  unfolding preemptiveEnd
+  the-end =
+      let l = least-at _ 1 limit (range .ends) in
+      record {
+        above = omega arith;
+        within = l .within;
+        solves = l .solves ∙ sides (range .f);
+        first = λ z b c d. l .first z (omega (arith, time-pos a)) c (d ∙ sym (sides z));
+      }
+
+  -- and answers with
+  pub preemptive-found : IsEnd a (endOfPart highers preempts false base from time)
+  unfolding endOfPart
+  preemptive-found =
+      rw (solved a time (range .f) the-end)
+      record { ends = finish-preemptive rows t r j kind ∙ range .ends; warm = reached a time (range .f) the-end }

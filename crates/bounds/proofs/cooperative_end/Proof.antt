@@ -1,5 +1,5 @@
 -- `bounds::cooperative_end` meets its contract: the first search gives the tick after the start, the second the end.
-use Prim.Native.Nat.{ℕ, _+_, _-_, _≤_, _<_}
+use Prim.Native.Nat.{ℕ, _+_, _-_}
 use mathlib.Core.Path.{_≡_, ap, _∙_}
 use mathlib.Core.Bool.{true}
 use mathlib.Core.List.{List}
@@ -9,33 +9,26 @@ use Rattle.model.specs.Least.{value}
 use Rattle.bounds.specs.declared.PartEnd.{PartEnd}
 use Rattle.bounds.specs.Loads.{workAt, solution}
 use Rattle.bounds.specs.Promises.{endFromStart, endOfPart}
-use Rattle.bounds.proofs.Walk.{in-range, highers-summed, preemptives-summed, begins}
+use Rattle.bounds.proofs.Walk.{sums-small, highers-summed, preemptives-summed, begins}
 use Rattle.bounds.proofs.Begun.{StartRange, start-range}
 use Rattle.bounds.proofs.cooperative_end.Statement.{statement}
 use Rattle.bounds.proofs.cooperative_end.Tie as tie
 
--- the numbers that the code adds are small
-small : (c : tie.After-shared-slice-known2)
-    → (c .before .before .args .base + c .before .before .args .time ≤ 16777215)
-    × (c .before .before .args .from ≤ 16777215)
-    × (0 < c .before .before .args .time)
-small c = in-range (c .before .before .pre)
-
 add-search : tie.Need-add-search
-add-search c = omega (arith, small c)
+add-search c = omega (arith, sums-small (c .before .before .pre))
 
 add-search-2 : tie.Need-add-search-2
-add-search-2 c = omega (arith, small c)
+add-search-2 c = omega (arith, sums-small (c .before .before .pre))
 
 search-requires : tie.Need-search-requires
 search-requires c κs =
     let a = c .before .before .pre in
-    (highers-summed a, (omega (arith, small c), begins a 1))
+    (highers-summed a, (omega (arith, sums-small a), begins a _))
 
 value-of-requires : tie.Need-value-of-requires
 value-of-requires c κs = search needs
 
--- what the first search answers
+-- the first search answers with the tick after the start
 answered : (c : tie.After-value-of)
     → c .value-of .result
     ≡ solution (c .before .before .before .before .args .higher .now) (c .before .before .before .before .args .base + 1)
@@ -70,11 +63,11 @@ value-of-requires-2 : tie.Need-value-of-requires-2
 value-of-requires-2 c κs = search needs
 
 -- the two searches together
-both : (above pre : List ℕ) (base from time y w e : ℕ) → y ≡ solution above (base + 1) (from + 1) → w ≡ workAt pre y
-    → e ≡ solution pre (y - 1 + time - w) (y - 1 + time)
-    → _≡_ {A = PartEnd} (record { end = e; next = y - 1 + time }) (endOfPart above pre true base from time)
+both : (highers preempts : List ℕ) (base from time y w e : ℕ) → y ≡ solution highers (base + 1) (from + 1) → w ≡ workAt preempts y
+    → e ≡ solution preempts (y - 1 + time - w) (y - 1 + time)
+    → _≡_ {A = PartEnd} (record { end = e; next = y - 1 + time }) (endOfPart highers preempts true base from time)
 unfolding endOfPart endFromStart
-both above pre base from time y w e p q r = rw (r, q, p)
+both highers preempts base from time y w e p q r = rw (r, q, p)
 
 returns : tie.Need-returns
 returns c =

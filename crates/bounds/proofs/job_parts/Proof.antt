@@ -15,48 +15,48 @@ use Rattle.lists.proofs.ListedOvers.{over-listed-at, over-listed-set, over-list
 use Rattle.bounds.specs.declared.Job.{Job}
 use Rattle.bounds.specs.declared.PartEnd.{PartEnd}
 use Rattle.bounds.specs.Promises.{JobLeft, endOfPart, baseAt, fromAt, raisedAt}
-use Rattle.bounds.proofs.Walk.{in-range}
+use Rattle.bounds.proofs.Walk.{sums-small}
 use Rattle.bounds.proofs.Jobs.{at-part, end-range}
 use Rattle.bounds.proofs.job_parts.Statement.{statement}
 use Rattle.bounds.proofs.job_parts.Tie as tie
 
 -- the walk before part r
-record PartsDone (above pre : List ℕ) (coop : Bool) (job : Job) (times old new : List ℕ) (done at r : ℕ) : Type 0 where
+record PartsDone (highers preempts : List ℕ) (coop : Bool) (job : Job) (times old new : List ℕ) (done at r : ℕ) : Type 0 where
   few : r ≤ length times
   base : done ≡ baseAt job times r
-  from : at ≡ fromAt above pre coop job times r
-  bounds : new ≡ over (listed (raisedAt above pre coop job times old) r) old
+  from : at ≡ fromAt highers preempts coop job times r
+  bounds : new ≡ over (listed (raisedAt highers preempts coop job times old) r) old
 
 -- before the first part nothing is raised
-none-done : (above pre : List ℕ) (coop : Bool) (job : Job) (times old : List ℕ)
-    → PartsDone above pre coop job times old old (job .base) (job .from) 0
+none-done : (highers preempts : List ℕ) (coop : Bool) (job : Job) (times old : List ℕ)
+    → PartsDone highers preempts coop job times old old (job .base) (job .from) 0
 unfolding fromAt sum listed
-none-done above pre coop job times old =
+none-done highers preempts coop job times old =
     record { few = omega arith; base = omega arith; from = refl; bounds = sym (over-none old) }
 
-module _ {above pre : List ℕ} {coop : Bool} {job : Job} {times old new : List ℕ} {done at r : ℕ}
-    (s : PartsDone above pre coop job times old new done at r) (same : length old ≡ length times) where
+module _ {highers preempts : List ℕ} {coop : Bool} {job : Job} {times old new : List ℕ} {done at r : ℕ}
+    (s : PartsDone highers preempts coop job times old new done at r) (same : length old ≡ length times) where
   -- as many bounds as before
   kept : length new ≡ length old
   kept = ap length (s .bounds) ∙ over-length _ old (rw listed-length (omega (arith, s .few)))
 
   -- after the last part all are raised
-  all-raised : length times ≤ r → JobLeft above pre coop job times old new at
+  all-raised : length times ≤ r → JobLeft highers preempts coop job times old new at
   all-raised past =
       let all : r ≡ length times = omega (arith, s .few) in
       record {
         bounds = s .bounds ∙ rw all (over-listed-all _ old (length times) same);
-        at = s .from ∙ ap (fromAt above pre coop job times) all;
+        at = s .from ∙ ap (fromAt highers preempts coop job times) all;
       }
 
-  module _ (h : r < length times) (p : PartEnd) (ends : p ≡ endOfPart above pre coop done at (getD times r 0)) where
+  module _ (h : r < length times) (p : PartEnd) (ends : p ≡ endOfPart highers preempts coop done at (getD times r 0)) where
     -- what part r's searches answer
-    answered : p ≡ endOfPart above pre coop (baseAt job times r) (fromAt above pre coop job times r) (getD times r 0)
-    answered = ends ∙ ap₂ (λ (b f : ℕ). endOfPart above pre coop b f (getD times r 0)) (s .base) (s .from)
+    answered : p ≡ endOfPart highers preempts coop (baseAt job times r) (fromAt highers preempts coop job times r) (getD times r 0)
+    answered = ends ∙ ap₂ (λ (b f : ℕ). endOfPart highers preempts coop b f (getD times r 0)) (s .base) (s .from)
 
     -- the walk goes on
     one-more : (v : ℕ) → v ≡ max (getD new r 0) (p .end - job .release)
-        → PartsDone above pre coop job times old (set new r v) (done + getD times r 0) (p .next) (r + 1)
+        → PartsDone highers preempts coop job times old (set new r v) (done + getD times r 0) (p .next) (r + 1)
     unfolding fromAt
     one-more v is =
         rw (add-one r)
@@ -67,7 +67,7 @@ module _ {above pre : List ℕ} {coop : Bool} {job : Job} {times old new : List 
           bounds = ap₂ (λ (l : List ℕ) (w : ℕ). set l r w) (s .bounds) raises ∙ over-listed-set _ old r (omega arith);
         }
       where
-        raises : v ≡ raisedAt above pre coop job times old r
+        raises : v ≡ raisedAt highers preempts coop job times old r
         raises =
             is
             ∙ ap₂ (λ (b e : ℕ). max b (e - job .release))
@@ -145,7 +145,7 @@ slice-write-bounds c = room (turned c)
 add-done : tie.Need-add-done Inv-loop μ-loop
 add-done c =
     let d = turned c in
-    let small = in-range (at-part (called d .pre .0) (d .before .loop .r) (d .loop-test .taken)) in
+    let small = sums-small (at-part (called d .pre .0) (d .before .loop .r) (d .loop-test .taken)) in
     omega (arith, small .0, d .before .loop .inv .base)
 
 add-r : tie.Need-add-r Inv-loop μ-loop

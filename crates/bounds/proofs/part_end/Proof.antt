@@ -1,5 +1,5 @@
 -- `bounds::part_end` meets its contract: a cooperative part has its own function, and a preemptive one is one search.
-use Prim.Native.Nat.{ℕ, _+_, _≤_, _<_}
+use Prim.Native.Nat.{ℕ, _+_}
 use mathlib.Core.Path.{_≡_, ap, _∙_}
 use mathlib.Core.Bool.{Bool, false}
 use mathlib.Core.List.{List}
@@ -9,7 +9,7 @@ use Rattle.model.specs.Least.{value}
 use Rattle.bounds.specs.declared.PartEnd.{PartEnd}
 use Rattle.bounds.specs.Loads.{solution}
 use Rattle.bounds.specs.Promises.{endOfPart}
-use Rattle.bounds.proofs.Walk.{in-range, highers-summed, begins}
+use Rattle.bounds.proofs.Walk.{sums-small, highers-summed, begins}
 use Rattle.bounds.proofs.part_end.Statement.{statement}
 use Rattle.bounds.proofs.part_end.Tie as tie
 
@@ -19,32 +19,25 @@ cooperative-end-requires c κs = rw (c .if1 .taken) at (c .before .before .befor
 returns : tie.Need-returns
 returns c = rw (c .before .if1 .taken) (c .cooperative-end .ensures)
 
--- the numbers that the code adds are small
-small : (c : tie.Else1)
-    → (c .before .before .before .args .base + c .before .before .before .args .time ≤ 16777215)
-    × (c .before .before .before .args .from ≤ 16777215)
-    × (0 < c .before .before .before .args .time)
-small c = in-range (c .before .before .before .pre)
-
 add-search : tie.Need-add-search
-add-search c = omega (arith, small c)
+add-search c = omega (arith, sums-small (c .before .before .before .pre))
 
 add-search-2 : tie.Need-add-search-2
-add-search-2 c = omega (arith, small c)
+add-search-2 c = omega (arith, sums-small (c .before .before .before .pre))
 
 search-requires : tie.Need-search-requires
 search-requires c κs =
     let a = c .before .before .before .pre in
-    (highers-summed a, (omega (arith, small c), begins a _))
+    (highers-summed a, (omega (arith, sums-small a), begins a _))
 
 value-of-requires : tie.Need-value-of-requires
 value-of-requires c κs = search needs
 
 -- the one search
-one : (above pre : List ℕ) (coop : Bool) (base from time e : ℕ) → coop ≡ false → e ≡ solution above (base + time) (from + time)
-    → _≡_ {A = PartEnd} (record { end = e; next = e }) (endOfPart above pre coop base from time)
+one : (highers preempts : List ℕ) (coop : Bool) (base from time e : ℕ) → coop ≡ false → e ≡ solution highers (base + time) (from + time)
+    → _≡_ {A = PartEnd} (record { end = e; next = e }) (endOfPart highers preempts coop base from time)
 unfolding endOfPart
-one above pre coop base from time e p q = rw (p, q)
+one highers preempts coop base from time e p q = rw (p, q)
 
 returns-2 : tie.Need-returns-2
 returns-2 c =

@@ -11,7 +11,8 @@ use Rattle.model.specs.Bounds.{up}
 use Rattle.bounds.specs.declared.Job.{Job}
 use Rattle.bounds.specs.declared.Own.{Own}
 use Rattle.bounds.specs.Promises.{OwnRow, AtJob, JobLeft, jobAt, boundsAfter, boundsIn}
-use Rattle.bounds.proofs.AllJobs.{bounds-length, has-own, period-range, window-small, at-job, base-small, looked-at, all-looked-at}
+use Rattle.bounds.proofs.AllJobs.{after-length, has-own, period-range, window-small}
+use Rattle.bounds.proofs.AllJobs.{at-job, base-small, job-in-window, jobs-past-window}
 use Rattle.bounds.proofs.row_bounds.Statement.{statement}
 use Rattle.bounds.proofs.row_bounds.Tie as tie
 
@@ -20,48 +21,48 @@ tail-is : (xs : List ℕ) → take (length xs - 2) (drop 2 xs) ≡ drop 2 xs
 tail-is xs = take-all (length xs - 2) (drop 2 xs) (omega (arith, length-drop 2 xs))
 
 -- j jobs are done
-record JobsDone (own-first pre : List ℕ) (own : Own) (times bounds : List ℕ) (job : Job) : Type 0 where
+record JobsDone (own-first preempts : List ℕ) (own : Own) (times bounds : List ℕ) (job : Job) : Type 0 where
   j : ℕ
   few : j ≤ up (own .window) (getD own-first 0 0)
-  stands : job ≡ jobAt own-first pre own times j
-  largest : bounds ≡ boundsAfter own-first pre own times j
+  stands : job ≡ jobAt own-first preempts own times j
+  largest : bounds ≡ boundsAfter own-first preempts own times j
 
 -- before the first job all bounds are 0
-none-done : {own-first pre : List ℕ} {own : Own} {times : List ℕ} (bounds : List ℕ) → bounds ≡ replicate (length times) 0
-    → JobsDone own-first pre own times bounds (record { base = own .blocking; from = own .blocking; release = 0 })
+none-done : {own-first preempts : List ℕ} {own : Own} {times : List ℕ} (bounds : List ℕ) → bounds ≡ replicate (length times) 0
+    → JobsDone own-first preempts own times bounds (record { base = own .blocking; from = own .blocking; release = 0 })
 unfolding jobAt boundsAfter
 none-done bounds zeros = record { j = 0; few = omega arith; stands = refl; largest = zeros }
 
-module _ {own-first pre : List ℕ} {own : Own} {times bounds : List ℕ} {job : Job} (g : OwnRow own-first pre own times)
-    (d : JobsDone own-first pre own times bounds job) where
+module _ {own-first preempts : List ℕ} {own : Own} {times bounds : List ℕ} {job : Job} (g : OwnRow own-first preempts own times)
+    (d : JobsDone own-first preempts own times bounds job) where
   -- as many bounds as parts
   same : length bounds ≡ length times
-  same = ap length (d .largest) ∙ bounds-length own-first pre own times (d .j)
+  same = ap length (d .largest) ∙ after-length own-first preempts own times (d .j)
 
   -- after the last job the bounds are there
-  all-done : own .window ≤ job .release → bounds ≡ boundsIn own-first pre own times
+  all-done : own .window ≤ job .release → bounds ≡ boundsIn own-first preempts own times
   unfolding boundsIn
   all-done past =
-      let most = all-looked-at g (d .j) (subst (λ (k : Job). own .window ≤ k .release) (d .stands) past) in
-      d .largest ∙ ap (boundsAfter own-first pre own times) (le-antisymm (d .few) most)
+      let most = jobs-past-window g (d .j) (subst (λ (k : Job). own .window ≤ k .release) (d .stands) past) in
+      d .largest ∙ ap (boundsAfter own-first preempts own times) (le-antisymm (d .few) most)
 
   module _ (more : job .release < own .window) where
     -- a job that is released in the window is looked at
     looked : d .j < up (own .window) (getD own-first 0 0)
-    looked = looked-at g (d .j) (subst (λ (k : Job). k .release < own .window) (d .stands) more)
+    looked = job-in-window g (d .j) (subst (λ (k : Job). k .release < own .window) (d .stands) more)
 
     -- its work fits in the window
     fits : job .base + getD own-first 1 0 ≤ 16777215
     fits = omega (arith, ap (λ (k : Job). k .base) (d .stands), base-small g (d .j) looked)
 
-    module _ (above : List ℕ) (behind : above ≡ drop 2 own-first) where
+    module _ (highers : List ℕ) (behind : highers ≡ drop 2 own-first) where
       -- it stands before its first part
-      asked : AtJob above pre (own .cooperative) job times
+      asked : AtJob highers preempts (own .cooperative) job times
       asked = rw (behind, d .stands) (at-job g (d .j) looked)
 
       -- and the walk goes on
-      one-more : (new : List ℕ) (from : ℕ) → JobLeft above pre (own .cooperative) job times bounds new from
-          → JobsDone own-first pre own times new
+      one-more : (new : List ℕ) (from : ℕ) → JobLeft highers preempts (own .cooperative) job times bounds new from
+          → JobsDone own-first preempts own times new
           (record { base = job .base + getD own-first 1 0; from = from; release = job .release + getD own-first 0 0 })
       unfolding jobAt boundsAfter
       one-more new from left =
@@ -111,7 +112,8 @@ part-higher-end c = omega arith
 
 loop-holds : tie.Need-loop-holds Inv-loop μ-loop
 loop-holds c =
-    none-done _ (c .before .before .before .before .before .clear .ensures ∙ ap (λ (n : ℕ). replicate n 0) (entry (c .before .before .before .before .before .before .before) .pre .1))
+    let lengths = entry (c .before .before .before .before .before .before .before) .pre .1 in
+    none-done _ (c .before .before .before .before .before .clear .ensures ∙ ap (λ (n : ℕ). replicate n 0) lengths)
 
 job-parts-requires : tie.Need-job-parts-requires Inv-loop μ-loop
 job-parts-requires c κs =
