@@ -3,7 +3,7 @@ use Prim.Native.Nat.{ℕ, zero, suc, _≤_}
 use native.Mathlib.Omega.{arith}
 use mathlib.Core.Path.{_≡_, refl, ap, subst, _∙_}
 use mathlib.Core.Bool.{Bool, true, false}
-use mathlib.Core.List.{List, [], _∷_, _++_, map}
+use mathlib.Core.List.{List, [], _∷_, _++_}
 use lib.ListN.{length, replicate}
 use lib.Dec.{ltb}
 use Rattle.lists.specs.Lists.{pick}
@@ -16,7 +16,7 @@ use Rattle.table.specs.declared.Verdict.{Verdict}
 use Rattle.table.specs.declared.Verdict.the-variants.{Good, Trailing}
 use Rattle.table.specs.Verdicts.{codeOf, good}
 use Rattle.table.specs.Fields.{Wanted, field, head, time, rowFrom, judge}
-use Rattle.table.specs.Memory.{rowOf, taskOf, allTimes}
+use Rattle.table.specs.Memory.{taskOf, allTimes, rowsOf}
 use Rattle.table.specs.Clash.{clashOf}
 use Rattle.table.proofs.SmallCodes.{judge-small, clash-small}
 use Rattle.files.specs.Reading.{Step, stop, go, _then_, unless, asked, fieldAt, fieldsAt, rowAt, rowsAt, endAt, decode, loaded, readAnswer}
@@ -79,9 +79,9 @@ end-stops : (s : List ℕ) (ts : List Task) (at : ℕ) → AtFault (endAt s ts a
 unfolding endAt
 end-stops s ts at = of-test (ltb at (length s))
   where
-    of-test : (b : Bool) → AtFault (pick b (stop (Trailing at)) (unless (clashOf (map rowOf ts)) ts at))
+    of-test : (b : Bool) → AtFault (pick b (stop (Trailing at)) (unless (clashOf (rowsOf ts)) ts at))
     of-test true = unfold AtFault good in (refl, omega arith)
-    of-test false = unless-stops (clashOf (map rowOf ts)) ts at (clash-small (map rowOf ts))
+    of-test false = unless-stops (clashOf (rowsOf ts)) ts at (clash-small (rowsOf ts))
 
 -- the whole file
 file-stops : (s : List ℕ) → AtFault (decode s)

@@ -3,17 +3,17 @@ use Prim.Native.Nat.{ℕ, _+_, _-_, _≤_, _<_}
 use native.Mathlib.Nat.{add-zero}
 use native.Mathlib.Omega.{arith}
 use mathlib.Core.Path.{_≡_, refl, sym, ap, _∙_}
-use mathlib.Core.List.{List, [], _∷_, _++_, map, append-assoc, List·Memᴰ·head, List·Memᴰ·tail}
+use mathlib.Core.List.{List, [], _∷_, _++_, append-assoc, List·Memᴰ·head, List·Memᴰ·tail}
 use lib.ListN.{length, getD, take, drop, length-append, take-append-drop}
 use lib.Seq.{getD-drop, drop-drop, take-append-seam, drop-append-seam}
-use Rattle.lists.specs.Lists.{_∈_}
+use Rattle.lists.specs.Lists.{_∈_, each}
 use Rattle.lists.proofs.Parts.{part-is}
 use Rattle.model.specs.Task.{Task}
 use Rattle.model.specs.Rows.{GoodTask}
 use Rattle.table.specs.declared.Row.{Row}
 use Rattle.table.specs.declared.Table.{Table}
 use Rattle.table.specs.Verdicts.{codeOf}
-use Rattle.table.specs.Memory.{zeroRow, rowOf, allTimes, stored, usedRows, usedTimes, partsIn, tasksOf}
+use Rattle.table.specs.Memory.{zeroRow, rowOf, allTimes, stored, usedRows, usedTimes, partsIn, tasksOf, rowsOf}
 use Rattle.table.specs.Faults.{faultOf}
 use Rattle.table.proofs.Stored.{times-found}
 use Rattle.table.proofs.GoodTasks.{times-fit, count-few, count-same, rows-same, tasks-good}
@@ -26,7 +26,7 @@ pub record Ahead (t : Table) (used i : ℕ) (left : List Task) : Type 0 where
   pub room : used + length (allTimes left) ≤ 1024
   pub good : (u : Task) → u ∈ left → GoodTask u
   pub more-rows : List Row
-  pub rows : drop i (t .rows) ≡ map rowOf left ++ more-rows
+  pub rows : drop i (t .rows) ≡ rowsOf left ++ more-rows
   pub more-times : List ℕ
   pub times : drop used (t .times) ≡ allTimes left ++ more-times
 
@@ -48,7 +48,7 @@ pub record Next (t : Table) (used i : ℕ) (left : List Task) : Type 0 where
 module _ {t : Table} {used i : ℕ} where
   -- there is a next task before the last row
   pub next : (left : List Task) → Ahead t used i left → i < t .count → Next t used i left
-  unfolding allTimes
+  unfolding each
   next [] a h = absurd (omega (arith, a .upto))
   next (u ∷ us) a h =
       let row : getD (t .rows) i zeroRow ≡ rowOf u
@@ -82,6 +82,11 @@ module _ {t : Table} {used i : ℕ} where
   pub none-ahead : (left : List Task) → Ahead t used i left → t .count ≤ i → left ≡ []
   none-ahead [] a h = refl
   none-ahead (u ∷ us) a h = absurd (omega (arith, a .upto))
+
+-- as many times as the row says
+pub lent-length : {t : Table} {used i : ℕ} {left : List Task} → Next t used i left
+    → length (lent t used i) ≡ getD (t .rows) i zeroRow .parts
+lent-length n = ap length (n .own) ∙ sym (ap (λ (r : Row). r .parts) (n .row))
 
 -- ---- where a walk starts
 

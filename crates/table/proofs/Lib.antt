@@ -13,3 +13,4 @@ pub mod Seven
 pub mod NoClash
 pub mod GoodCore
 pub mod SmallCodes
+pub mod Writes

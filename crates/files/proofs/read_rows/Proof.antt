@@ -5,19 +5,20 @@ use native.Mathlib.Nat.{sub-zero}
 use native.Mathlib.Omega.{arith}
 use borrow.Author.Needs.{needs}
 use mathlib.Core.Path.{_≡_, refl, sym, ap, _∙_}
-use mathlib.Core.List.{List, [], _∷_, _++_, map, map-append}
-use lib.ListN.{length, take, drop, set, replicate, length-map, length-append, length-replicate}
-use Rattle.lists.specs.Lists.{padTo}
+use mathlib.Core.List.{List, [], _∷_, _++_}
+use lib.ListN.{length, take, drop, set, replicate, length-append, length-replicate}
+use Rattle.lists.specs.Lists.{padTo, each}
+use Rattle.lists.proofs.Each.{each-snoc}
 use Rattle.lists.proofs.Pads.{set-pad, splice-pad}
 use Rattle.lists.proofs.Parts.{part-length}
 use Rattle.model.specs.Task.{Task}
 use Rattle.table.specs.declared.Row.{Row}
 use Rattle.table.specs.declared.Verdict.{Verdict}
 use Rattle.table.specs.Fields.{head, time}
-use Rattle.table.specs.Memory.{rowOf, taskOf, allTimes, zeroRow}
+use Rattle.table.specs.Memory.{taskOf, allTimes, zeroRow, rowsOf}
 use Rattle.table.proofs.Heads.{GoodHead}
+use Rattle.table.proofs.Stored.{rows-length, rows-snoc}
 use Rattle.table.proofs.Seven.{all-length}
-use Rattle.table.proofs.Stored.{all-times-snoc}
 use Rattle.files.specs.declared.Next.the-variants.{At}
 use Rattle.files.specs.Reading.{Step, stop, go, fieldsAt, rowAt, rowsAt}
 use Rattle.files.specs.Promises.{asBody}
@@ -33,7 +34,7 @@ record Loading (s : List ℕ) (at n : ℕ) (rows : List Row) (times : List ℕ) 
   count : i ≡ length done
   total : used ≡ length (allTimes done)
   room : used ≤ 1024
-  rows-are : rows ≡ padTo zeroRow 64 (map rowOf done)
+  rows-are : rows ≡ padTo zeroRow 64 (rowsOf done)
   times-are : times ≡ padTo 0 1024 (allTimes done)
   same : rowsAt n [] s at ≡ rowsAt (n - i) done s p
 
@@ -75,17 +76,17 @@ module _ {s : List ℕ} {at n : ℕ} {rows : List Row} {times : List ℕ} {p use
         full : length ts ≡ row .parts
         full = all-length _ ts (taken-all (replicate (row .parts) time) s q ts m read .fine) ∙ length-replicate (row .parts) time
 
-        rows-turn : set rows i row ≡ padTo zeroRow 64 (map rowOf (l .done ++ (taskOf row ts ∷ [])))
+        rows-turn : set rows i row ≡ padTo zeroRow 64 (rowsOf (l .done ++ (taskOf row ts ∷ [])))
         rows-turn =
-            let at-end : i ≡ length (map rowOf (l .done)) = l .count ∙ sym (length-map (l .done) rowOf) in
-            let next = set-pad zeroRow 64 (map rowOf (l .done)) row (omega arith) in
-            rw (l .rows-are, at-end, next, map-append rowOf (l .done) (taskOf row ts ∷ []), full)
+            let at-end : i ≡ length (rowsOf (l .done)) = l .count ∙ sym (rows-length (l .done)) in
+            let next = set-pad zeroRow 64 (rowsOf (l .done)) row (omega arith) in
+            rw (l .rows-are, at-end, next, rows-snoc (l .done) (taskOf row ts), full)
 
         times-turn : take used times ++ (ts ++ drop (used + row .parts - used) (drop used times))
             ≡ padTo 0 1024 (allTimes (l .done ++ (taskOf row ts ∷ [])))
         times-turn =
             let lent : used + row .parts - used ≡ length ts = omega (arith, full) in
-            rw (lent, l .times-are, l .total, splice-pad 0 1024 (allTimes (l .done)) ts, all-times-snoc)
+            rw (lent, l .times-are, l .total, splice-pad 0 1024 (allTimes (l .done)) ts, each-snoc)
 
         turn : Loading s at n (set rows i row) (take used times ++ (ts ++ drop (used + row .parts - used) (drop used times))) m
             (used + row .parts) (i + 1)
@@ -93,7 +94,7 @@ module _ {s : List ℕ} {at n : ℕ} {rows : List Row} {times : List ℕ} {p use
           done = l .done ++ (taskOf row ts ∷ []);
           upto = omega arith;
           count = rw length-append (omega (arith, l .count));
-          total = rw (all-times-snoc, length-append) (omega (arith, l .total, full));
+          total = rw (each-snoc, length-append) (omega (arith, l .total, full));
           room = good-row .room;
           rows-are = rows-turn;
           times-are = times-turn;
@@ -135,7 +136,7 @@ row-of-requires : tie.Need-row-of-requires Inv-loop μ-loop
 row-of-requires c κs = search needs
 
 loop-holds : tie.Need-loop-holds Inv-loop μ-loop
-unfolding allTimes
+unfolding each
 loop-holds c =
     record {
       done = [];
