@@ -23,14 +23,14 @@ use Rattle.table.specs.declared.Verdict.the-variants.{Good, OutOfRange, TooMany
 use Rattle.table.specs.Verdicts.{numberOf, good, _orElse_}
 use Rattle.table.specs.Fields.{Wanted, field, head, time, rowFrom, judge}
 use Rattle.table.specs.Memory.{taskOf, allTimes, rowsOf}
-use Rattle.table.specs.Clash.{clash, breaks, named, broken, clashOf}
+use Rattle.table.specs.Clash.{clash, breaks, ruleVerdict, broken, clashOf}
 use Rattle.table.proofs.Codes.{good-code}
 use Rattle.table.proofs.Fine.{good-fine}
 use Rattle.table.proofs.Stored.{rows-length}
 use Rattle.files.specs.Reading.{Step, stop, go, _then_, unless, asked, fieldAt, fieldsAt, rowAt, rowsAt, endAt, decode}
 
 -- a clash carries its row
-rule-row : (rule : Rule) (n : ℕ) → numberOf (named rule n) ≡ n
+rule-row : (rule : Rule) (n : ℕ) → numberOf (ruleVerdict rule n) ≡ n
 rule-row R.SameId n = refl
 rule-row R.SamePriority n = refl
 rule-row R.KindsCrossed n = refl

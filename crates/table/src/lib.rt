@@ -5,7 +5,7 @@ ghost use lib.ListN.{length, drop, replicate};
 ghost use Rattle.table.specs.Verdicts.{codeOf, numberOf};
 ghost use Rattle.table.specs.Fields.{head, time, want, wanted, Ranges, leftAfter, judge, faultIn, fieldsOf, rowFrom};
 ghost use Rattle.table.specs.Memory.{stored, usedRows};
-ghost use Rattle.table.specs.Clash.{breaks, coopAbove, clash, broken, named, clashOf};
+ghost use Rattle.table.specs.Clash.{breaks, coopAbove, clash, broken, ruleVerdict, clashOf};
 ghost use Rattle.table.specs.Written.{noneWritten};
 ghost use Rattle.table.specs.Faults.{rowFault, rowsFault, faultOf};
 
@@ -268,7 +268,7 @@ fn first_clash(t: Table, rule: Rule) -> usize
 
 // The code of a rule, with the row.
 fn verdict_on(rule: Rule, row: usize) -> Verdict
-    ensures { λ r. ⌜ r ≡ named rule row ⌝ }
+    ensures { λ r. ⌜ r ≡ ruleVerdict rule row ⌝ }
 {
     match rule {
         Rule::SameId => Verdict::IdTwice(row),
