@@ -3,24 +3,25 @@ use Prim.Native.Nat.{ℕ, zero, suc, _+_, _≤_}
 use native.Mathlib.Omega.{arith}
 use borrow.Author.Tests.{ltb-false}
 use mathlib.Core.Path.{_≡_, refl, sym, ap, _∙_}
-use mathlib.Core.List.{List, [], _∷_, _++_, map, append-assoc, append-nil}
+use mathlib.Core.List.{List, [], _∷_, _++_, append-assoc, append-nil}
 use lib.ListN.{length, drop, replicate, length-append, length-replicate, drop-of-length-le}
 use lib.Dec.{ltb}
+use Rattle.lists.specs.Lists.{each}
+use Rattle.lists.proofs.Each.{each-snoc}
 use Rattle.lists.proofs.Tests.{by-test}
 use Rattle.numbers.specs.Numbers.{Bytes, encodeAll}
 use Rattle.model.specs.Task.{Task}
 use Rattle.table.specs.declared.Verdict.the-variants.{Trailing}
 use Rattle.table.specs.Verdicts.{codeOf, good}
 use Rattle.table.specs.Fields.{field, head, time, rowFrom, fieldsOf}
-use Rattle.table.specs.Memory.{rowOf, taskOf, allTimes}
+use Rattle.table.specs.Memory.{rowOf, taskOf, allTimes, rowsOf}
 use Rattle.table.specs.Clash.{clashOf}
 use Rattle.table.proofs.Seven.{all-length, seven}
-use Rattle.table.proofs.Stored.{all-times-snoc}
 use Rattle.table.proofs.GoodTasks.{FineTask, FineTasks, GoodTasks}
 use Rattle.files.specs.Reading.{stop, go, _then_, fieldAt, fieldsAt, rowAt, rowsAt, endAt, decode}
 use Rattle.files.specs.Writing.{encodeFile}
 use Rattle.files.proofs.Taken.{Between, joined, stopped-not, passed, then-read, Read, field-read, TakenAll, taken-all}
-use Rattle.files.proofs.RowBytes.{rowBytes, rowsBytes, rows-none, rows-more, file-parts}
+use Rattle.files.proofs.RowBytes.{rowBytes, rowsBytes, row-parts, rows-none, rows-more, file-parts}
 
 module _ (s : List ℕ) where
   -- a row that was read
@@ -31,13 +32,12 @@ module _ (s : List ℕ) where
   -- its seven fields, then as many times as it has parts
   row-of : (used at m n : ℕ) (fields times : List ℕ) → TakenAll (head used) s at fields m
       → TakenAll (replicate (rowFrom fields .parts) time) s m times n → Row used at (taskOf (rowFrom fields) times) n
-  unfolding rowBytes
   row-of used at m n fields times f g =
       let own : length times ≡ rowFrom fields .parts = all-length _ times (g .fine) ∙ length-replicate (rowFrom fields .parts) time in
       let same : fieldsOf (rowOf (taskOf (rowFrom fields) times)) ≡ fields = rw own (seven used fields (f .fine)) in
       record {
         fine = record { fields = rw same (f .fine); times = rw own (g .fine) };
-        bytes = λ bs. rw same (joined s at m n (encodeAll fields) (encodeAll times) (f .bytes bs) (g .bytes bs));
+        bytes = λ bs. rw (row-parts (taskOf (rowFrom fields) times), same) (joined s at m n (encodeAll fields) (encodeAll times) (f .bytes bs) (g .bytes bs));
       }
 
   -- the same row, ending at the same place
@@ -71,7 +71,7 @@ module _ (s : List ℕ) where
   unfolding FineTasks
   row-more k at m n t done all f l =
       let before : length (allTimes (done ++ (t ∷ []))) ≡ length (allTimes done) + length (t .times)
-      = ap length (all-times-snoc done t) ∙ length-append (allTimes done) (t .times) in
+      = ap length (each-snoc _ done t) ∙ length-append (allTimes done) (t .times) in
       record {
         tail = t ∷ l .tail;
         whole = l .whole ∙ append-assoc done (t ∷ []) (l .tail);
@@ -100,11 +100,11 @@ module _ (s : List ℕ) where
 
   -- the end: no byte is left, and no row clashes
   end-back : (ts : List Task) (p : ℕ) (us : List Task) (n : ℕ) → endAt s ts p ≡ go us n
-      → (length s ≤ p) × (codeOf (clashOf (map rowOf ts)) ≡ 0) × (ts ≡ us)
+      → (length s ≤ p) × (codeOf (clashOf (rowsOf ts)) ≡ 0) × (ts ≡ us)
   unfolding endAt
   end-back ts p us n e =
       by-test (ltb p (length s)) (λ t. let f : stop (Trailing p) ≡ go us n = rw t at e in stopped-not _ refl f)
-      (λ f. let u = passed (clashOf (map rowOf ts)) ts p us n (rw f at e) in (ltb-false p (length s) f, u .fine, u .same))
+      (λ f. let u = passed (clashOf (rowsOf ts)) ts p us n (rw f at e) in (ltb-false p (length s) f, u .fine, u .same))
 
   -- the whole file
   pub record File (ts : List Task) : Type 0 where
@@ -113,10 +113,10 @@ module _ (s : List ℕ) where
 
   -- the row count, then the rows, then the end
   file-of : (count at m : ℕ) (ts : List Task) → Read (field 0 64) s 0 count at → Rows count at [] ts m
-      → length s ≤ m → codeOf (clashOf (map rowOf ts)) ≡ 0 → File ts
+      → length s ≤ m → codeOf (clashOf (rowsOf ts)) ≡ 0 → File ts
   file-of count at m ts c r ended apart =
       let all : length ts ≡ count = ap length (r .whole) ∙ r .count in
-      let fine : FineTasks 0 (r .tail) = unfold allTimes in r .fine in
+      let fine : FineTasks 0 (r .tail) = unfold each in r .fine in
       let none : drop m s ≡ [] = drop-of-length-le s ended in
       let rows : Bytes s → drop at s ≡ rowsBytes ts = λ bs. r .bytes bs ∙ rw (none, ← r .whole) (append-nil (rowsBytes ts)) in
       record {

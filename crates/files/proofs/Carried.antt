@@ -4,8 +4,8 @@ use native.Mathlib.Omega.{arith}
 use mathlib.Core.Path.{_≡_, refl, ap, _∙_}
 use borrow.Author.Tests.{ltb-true}
 use mathlib.Core.Bool.{Bool, true, false, _||_}
-use mathlib.Core.List.{List, [], _∷_, _++_, map}
-use lib.ListN.{length, drop, replicate, length-map, length-append, length-drop}
+use mathlib.Core.List.{List, [], _∷_, _++_}
+use lib.ListN.{length, drop, replicate, length-append, length-drop}
 use lib.Dec.{ltb}
 use Rattle.lists.specs.Lists.{pick}
 use Rattle.lists.proofs.Tests.{by-test}
@@ -22,14 +22,15 @@ use Rattle.table.specs.declared.Verdict.{Verdict}
 use Rattle.table.specs.declared.Verdict.the-variants.{Good, OutOfRange, TooManyTimes, Trailing}
 use Rattle.table.specs.Verdicts.{numberOf, good, _orElse_}
 use Rattle.table.specs.Fields.{Wanted, field, head, time, rowFrom, judge}
-use Rattle.table.specs.Memory.{rowOf, taskOf, allTimes}
-use Rattle.table.specs.Clash.{clash, breaks, named, broken, clashOf}
+use Rattle.table.specs.Memory.{taskOf, allTimes, rowsOf}
+use Rattle.table.specs.Clash.{clash, breaks, ruleVerdict, broken, clashOf}
 use Rattle.table.proofs.Codes.{good-code}
 use Rattle.table.proofs.Fine.{good-fine}
+use Rattle.table.proofs.Stored.{rows-length}
 use Rattle.files.specs.Reading.{Step, stop, go, _then_, unless, asked, fieldAt, fieldsAt, rowAt, rowsAt, endAt, decode}
 
 -- a clash carries its row
-rule-row : (rule : Rule) (n : ℕ) → numberOf (named rule n) ≡ n
+rule-row : (rule : Rule) (n : ℕ) → numberOf (ruleVerdict rule n) ≡ n
 rule-row R.SameId n = refl
 rule-row R.SamePriority n = refl
 rule-row R.KindsCrossed n = refl
@@ -148,10 +149,10 @@ module _ (s : List ℕ) (bs : Bytes s) where
   unfolding endAt
   end-near ts at h few = of-test (ltb at (length s))
     where
-      of-test : (b : Bool) → Near Any (pick b (stop (Trailing at)) (unless (clashOf (map rowOf ts)) ts at))
+      of-test : (b : Bool) → Near Any (pick b (stop (Trailing at)) (unless (clashOf (rowsOf ts)) ts at))
       of-test true = unfold Near in omega arith
       of-test false =
-          unless-near Any (clashOf (map rowOf ts)) ts at (omega (arith, clash-small (map rowOf ts), length-map ts rowOf)) h (λ g. tt)
+          unless-near Any (clashOf (rowsOf ts)) ts at (omega (arith, clash-small (rowsOf ts), rows-length ts)) h (λ g. tt)
 
   -- the whole file
   file-near : Near Any (decode s)

@@ -8,7 +8,8 @@ use mathlib.Core.Bool.{true}
 use mathlib.Core.List.{List, [], _∷_, _++_}
 use lib.ListN.{length, take, drop, replicate, length-append, length-drop, length-replicate}
 use lib.Seq.{take-all, length-take-le}
-use Rattle.lists.specs.Lists.{total}
+use Rattle.lists.specs.Lists.{total, each}
+use Rattle.lists.proofs.Each.{each-snoc}
 use Rattle.lists.proofs.Fronts.{drop-front}
 use Rattle.lists.proofs.Tests.{either}
 use Rattle.numbers.specs.Numbers.{Bytes, after, groups, numberAt, encode}
@@ -20,7 +21,6 @@ use Rattle.model.specs.Task.{Task}
 use Rattle.table.specs.Fields.{Wanted, field, head, time, rowFrom}
 use Rattle.table.specs.Memory.{taskOf, allTimes}
 use Rattle.table.proofs.Seven.{all-length}
-use Rattle.table.proofs.Stored.{all-times-snoc}
 use Rattle.files.specs.Reading.{Step, stop, go, _then_, asked, fieldAt, fieldsAt, rowAt, rowsAt, endAt, decode, loaded, readAnswer}
 use Rattle.files.specs.Enough.{EnoughToJudge}
 use Rattle.files.proofs.Sizes.{bytesOf, short, bytes-head, bytes-times}
@@ -134,7 +134,7 @@ module _ (s : List ℕ) (bs : Bytes s) (long : 5124 ≤ length s) where
       then-same (rowAt (length (allTimes done)) s at) _ _ _ (row-same (length done) (length (allTimes done)) at (omega arith) room h)
       (λ task n e.
       let own = row-end (length (allTimes done)) at task n e in
-      let times = ap length (all-times-snoc done task) ∙ length-append (allTimes done) (task .times) in
+      let times = ap length (each-snoc _ done task) ∙ length-append (allTimes done) (task .times) in
       let rows = length-append done (task ∷ []) in
       rows-same k (done ++ (task ∷ [])) n (omega (arith, rows)) (omega (arith, times, own .1)) (omega (arith, times, rows, own .0)))
 
@@ -146,7 +146,7 @@ module _ (s : List ℕ) (bs : Bytes s) (long : 5124 ≤ length s) where
   rows-end (suc k) done at tasks n few room h e =
       let r = then-read (rowAt (length (allTimes done)) s at) _ tasks n e in
       let own = row-end (length (allTimes done)) at (r .what) (r .place) (r .first) in
-      let times = ap length (all-times-snoc done (r .what)) ∙ length-append (allTimes done) (r .what .times) in
+      let times = ap length (each-snoc _ done (r .what)) ∙ length-append (allTimes done) (r .what .times) in
       let rows = length-append done (r .what ∷ []) in
       rows-end k (done ++ (r .what ∷ [])) (r .place) tasks n (omega (arith, rows)) (omega (arith, times, own .1))
       (omega (arith, times, rows, own .0)) (r .rest)
@@ -165,7 +165,7 @@ module _ (s : List ℕ) (bs : Bytes s) (long : 5124 ≤ length s) where
       (λ count at e.
       let r = field-read (field 0 64) s 0 count at e in
       let one = length-one count (omega (arith, r .fine .most)) in
-      let none : length (allTimes []) ≡ 0 = unfold allTimes in refl in
+      let none : length (allTimes []) ≡ 0 = unfold each in refl in
       let few : 0 + count ≤ 64 = omega (arith, r .fine .most) in
       let first : at ≤ 1 + (16 * 0 + 4 * length (allTimes [])) = omega (arith, r .past bs) in
       then-same (rowsAt count [] s at) _ _ _ (rows-same count [] at few (omega arith) first)

@@ -4,6 +4,7 @@ use native.Mathlib.Omega.{arith}
 use mathlib.Core.Path.{_≡_, ap}
 use mathlib.Core.List.{List, [], _∷_}
 use lib.ListN.{length, length-append}
+use Rattle.lists.specs.Lists.{each}
 use Rattle.numbers.specs.Numbers.{encode, encodeAll}
 use Rattle.numbers.proofs.Laws.{length-one}
 use Rattle.model.specs.Task.{Task}
@@ -12,22 +13,21 @@ use Rattle.table.specs.Memory.{rowOf, allTimes}
 use Rattle.table.proofs.GoodTasks.{FineTask, FineTasks, GoodTasks, times-fit}
 use Rattle.files.specs.Writing.{encodeFile}
 use Rattle.files.specs.RoundTrips.{GoodFileIsShort}
-use Rattle.files.proofs.RowBytes.{rowBytes, rowsBytes, rows-none, rows-more, file-parts}
+use Rattle.files.proofs.RowBytes.{rowBytes, rowsBytes, row-parts, rows-none, rows-more, file-parts}
 use Rattle.files.proofs.Sizes.{short, bytes-head, bytes-times}
 use Rattle.files.proofs.Stops.{good-tasks}
 use Rattle.files.proofs.Back.{file-back}
 
 -- a row: 16 bytes, and four for each time
 row-short : (used : ℕ) (t : Task) → FineTask used t → length (rowBytes t) ≤ 16 + 4 * length (t .times)
-unfolding rowBytes
 row-short used t f =
     let fields : length (encodeAll (fieldsOf (rowOf t))) ≤ 16 = rw (bytes-head used) at (short (head used) _ (f .fields)) in
     let times : length (encodeAll (t .times)) ≤ 4 * length (t .times) = rw (bytes-times (length (t .times))) at (short _ (t .times) (f .times)) in
-    rw (length-append (encodeAll (fieldsOf (rowOf t))) (encodeAll (t .times))) (omega arith)
+    rw (row-parts t, length-append (encodeAll (fieldsOf (rowOf t))) (encodeAll (t .times))) (omega arith)
 
 -- rows one after another
 rows-short : (used : ℕ) (ts : List Task) → FineTasks used ts → length (rowsBytes ts) ≤ 16 * length ts + 4 * length (allTimes ts)
-unfolding FineTasks allTimes
+unfolding FineTasks each
 rows-short used [] f = rw rows-none (omega arith)
 rows-short used (t ∷ ts) f =
     let first = row-short used t (f .0) in

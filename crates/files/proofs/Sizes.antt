@@ -5,7 +5,7 @@ use mathlib.Core.Path.{_≡_, refl}
 use mathlib.Core.List.{List, [], _∷_}
 use lib.ListN.{length, replicate, length-append}
 use lib.Dec.{lit<}
-use Rattle.lists.specs.Lists.{total}
+use Rattle.lists.specs.Lists.{total, each}
 use Rattle.numbers.specs.Numbers.{encodeIn, encode, encodeAll}
 use Rattle.numbers.proofs.Sizes.{longer}
 use Rattle.table.specs.Fields.{Wanted, head, time}
@@ -33,7 +33,7 @@ bytesOf w = length (encode (w .high))
 
 -- so they take no more than their largest would
 pub short : (ws : List Wanted) (ns : List ℕ) → AllFine ws ns → length (encodeAll ns) ≤ total bytesOf ws
-unfolding AllFine encodeAll total bytesOf
+unfolding AllFine each total bytesOf
 short [] [] f = omega arith
 short [] (n ∷ ns) f = absurd f
 short (w ∷ ws) [] f = absurd f

@@ -1,9 +1,8 @@
 -- Reading stops only at a fault: a good answer is that of tasks that were read. Assumes nothing.
-use Prim.Native.Nat.{ℕ, zero, suc, _≤_}
-use native.Mathlib.Omega.{arith}
+use Prim.Native.Nat.{ℕ, zero, suc}
 use mathlib.Core.Path.{_≡_, refl, ap, subst, _∙_}
 use mathlib.Core.Bool.{Bool, true, false}
-use mathlib.Core.List.{List, [], _∷_, _++_, map}
+use mathlib.Core.List.{List, [], _∷_, _++_}
 use lib.ListN.{length, replicate}
 use lib.Dec.{ltb}
 use Rattle.lists.specs.Lists.{pick}
@@ -14,16 +13,16 @@ use Rattle.numbers.specs.declared.Number.the-variants as N
 use Rattle.model.specs.Task.{Task}
 use Rattle.table.specs.declared.Verdict.{Verdict}
 use Rattle.table.specs.declared.Verdict.the-variants.{Good, Trailing}
-use Rattle.table.specs.Verdicts.{codeOf, good}
+use Rattle.table.specs.Verdicts.{good, reading}
 use Rattle.table.specs.Fields.{Wanted, field, head, time, rowFrom, judge}
-use Rattle.table.specs.Memory.{rowOf, taskOf, allTimes}
+use Rattle.table.specs.Memory.{taskOf, allTimes, rowsOf}
 use Rattle.table.specs.Clash.{clashOf}
-use Rattle.table.proofs.SmallCodes.{judge-small, clash-small}
+use Rattle.table.proofs.ReadingCodes.{judge-reading, clash-reading}
 use Rattle.files.specs.Reading.{Step, stop, go, _then_, unless, asked, fieldAt, fieldsAt, rowAt, rowsAt, endAt, decode, loaded, readAnswer}
 
--- a step that, if it stops, does so at a fault, with one of the codes of reading
+-- a step that, if it stops, does so at a fault, with a verdict of reading
 unfoldable AtFault : {A : Type 0} → Step A → Type 0
-AtFault (stop v) = (good v ≡ false) × (codeOf v ≤ 8)
+AtFault (stop v) = (good v ≡ false) × (reading v ≡ true)
 AtFault (go a n) = Unit {0}
 
 module _ {A : Type 0} where
@@ -39,9 +38,9 @@ module _ {A : Type 0} where
   then-stops (go a n) f h g = g a n
 
   -- unless the verdict is good
-  unless-stops : (v : Verdict) (a : A) (n : ℕ) → codeOf v ≤ 8 → AtFault (unless v a n)
+  unless-stops : (v : Verdict) (a : A) (n : ℕ) → reading v ≡ true → AtFault (unless v a n)
   unfolding unless AtFault
-  unless-stops v a n small = by-test (good v) (λ t. rw t tt) (λ f. rw f (f, small))
+  unless-stops v a n read = by-test (good v) (λ t. rw t tt) (λ f. rw f (f, read))
 
 -- a number
 field-stops : (w : Wanted) (s : List ℕ) (at : ℕ) → AtFault (fieldAt w s at)
@@ -49,9 +48,9 @@ unfolding fieldAt
 field-stops w s at = of-number (numberAt s at)
   where
     of-number : (x : Number) → AtFault (asked w s at x)
-    of-number (N.Got v n) = unfold asked in unless-stops (judge w at v) v n (judge-small w at v)
-    of-number N.EndsEarly = unfold asked AtFault good in (refl, omega arith)
-    of-number N.Malformed = unfold asked AtFault good in (refl, omega arith)
+    of-number (N.Got v n) = unfold asked in unless-stops (judge w at v) v n (judge-reading w at v)
+    of-number N.EndsEarly = unfold asked AtFault good in (refl, refl)
+    of-number N.Malformed = unfold asked AtFault good in (refl, refl)
 
 -- numbers one after another
 fields-stop : (ws : List Wanted) (done s : List ℕ) (at : ℕ) → AtFault (fieldsAt ws done s at)
@@ -79,9 +78,9 @@ end-stops : (s : List ℕ) (ts : List Task) (at : ℕ) → AtFault (endAt s ts a
 unfolding endAt
 end-stops s ts at = of-test (ltb at (length s))
   where
-    of-test : (b : Bool) → AtFault (pick b (stop (Trailing at)) (unless (clashOf (map rowOf ts)) ts at))
-    of-test true = unfold AtFault good in (refl, omega arith)
-    of-test false = unless-stops (clashOf (map rowOf ts)) ts at (clash-small (map rowOf ts))
+    of-test : (b : Bool) → AtFault (pick b (stop (Trailing at)) (unless (clashOf (rowsOf ts)) ts at))
+    of-test true = unfold AtFault good in (refl, refl)
+    of-test false = unless-stops (clashOf (rowsOf ts)) ts at (clash-reading (rowsOf ts))
 
 -- the whole file
 file-stops : (s : List ℕ) → AtFault (decode s)
@@ -90,8 +89,8 @@ file-stops s =
     then-stops (fieldAt (field 0 64) s 0) _ (field-stops (field 0 64) s 0)
     (λ count at. then-stops (rowsAt count [] s at) _ (rows-stop count [] s at) (λ ts n. end-stops s ts n))
 
--- a refused read has one of the codes of reading, which is not 0
-pub stop-fault : (s : List ℕ) (v : Verdict) → decode s ≡ stop v → (good v ≡ false) × (codeOf v ≤ 8)
+-- a refused read has a verdict of reading, which is not good
+pub stop-fault : (s : List ℕ) (v : Verdict) → decode s ≡ stop v → (good v ≡ false) × (reading v ≡ true)
 unfolding AtFault
 stop-fault s v e = subst AtFault e (file-stops s)
 

@@ -4,6 +4,7 @@ use native.Mathlib.Omega.{arith}
 use mathlib.Core.Path.{_≡_, refl, sym, ap, _∙_}
 use mathlib.Core.List.{List, [], _∷_, _++_, append-assoc, append-nil}
 use lib.ListN.{length, drop, length-append}
+use Rattle.lists.specs.Lists.{each}
 use Rattle.lists.proofs.Tests.{by-test}
 use Rattle.numbers.specs.Numbers.{Bytes, numberAt, encode, encodeAll}
 use Rattle.numbers.specs.declared.Number.{Number}
@@ -90,7 +91,7 @@ pub record Taken (ws : List Wanted) (done s : List ℕ) (at : ℕ) (all : List �
 
 pub taken : (ws : List Wanted) (done s : List ℕ) (at : ℕ) (all : List ℕ) (n : ℕ) → fieldsAt ws done s at ≡ go all n
     → Taken ws done s at all n
-unfolding fieldsAt AllFine encodeAll
+unfolding fieldsAt AllFine each
 taken [] done s at all n e =
     let same : done ≡ all = cc in
     let here : at ≡ n = cc in

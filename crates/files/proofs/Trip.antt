@@ -4,22 +4,23 @@ use native.Mathlib.Nat.{add-zero}
 use native.Mathlib.Omega.{arith}
 use borrow.Author.Tests.{le-ltb}
 use mathlib.Core.Path.{_≡_, sym, ap, ap₂, _∙_}
-use mathlib.Core.List.{List, [], _∷_, _++_, map, append-assoc, append-nil}
+use mathlib.Core.List.{List, [], _∷_, _++_, append-assoc, append-nil}
 use lib.ListN.{length, drop, length-append}
+use Rattle.lists.specs.Lists.{each}
+use Rattle.lists.proofs.Each.{each-snoc}
 use Rattle.numbers.specs.Numbers.{encode, encodeAll}
 use Rattle.numbers.proofs.RoundTrip.{read-here, next-here}
 use Rattle.model.specs.Task.{Task}
 use Rattle.table.specs.Verdicts.{good}
 use Rattle.table.specs.Fields.{Wanted, field, head, fieldsOf}
-use Rattle.table.specs.Memory.{rowOf, allTimes}
+use Rattle.table.specs.Memory.{rowOf, allTimes, rowsOf}
 use Rattle.table.specs.Clash.{clashOf}
 use Rattle.table.proofs.Codes.{is-good}
 use Rattle.table.proofs.Fine.{Fine, AllFine, fine-good}
-use Rattle.table.proofs.Stored.{all-times-snoc}
 use Rattle.table.proofs.GoodTasks.{FineTask, FineTasks, GoodTasks}
 use Rattle.files.specs.Reading.{go, _then_, unless, asked, fieldAt, fieldsAt, rowAt, rowsAt, endAt, decode}
 use Rattle.files.specs.Writing.{encodeFile}
-use Rattle.files.proofs.RowBytes.{rowBytes, rowsBytes, rows-none, rows-more, file-parts}
+use Rattle.files.proofs.RowBytes.{rowBytes, rowsBytes, row-parts, rows-none, rows-more, file-parts}
 use Rattle.files.proofs.Sizes.{Four, four-head, four-times}
 
 -- a number that may stand there and stands there is read
@@ -32,7 +33,7 @@ field-here w v s rest at small f here =
 -- numbers one after another
 fields-here : (ws : List Wanted) (ns done s rest : List ℕ) (at : ℕ) → Four ws → AllFine ws ns → drop at s ≡ encodeAll ns ++ rest
     → fieldsAt ws done s at ≡ go (done ++ ns) (at + length (encodeAll ns))
-unfolding Four AllFine encodeAll fieldsAt _then_
+unfolding Four AllFine each fieldsAt _then_
 fields-here [] [] done s rest at four f here = ap₂ go (sym (append-nil done)) (sym (add-zero at))
 fields-here [] (n ∷ ns) done s rest at four f here = absurd f
 fields-here (w ∷ ws) [] done s rest at four f here = absurd f
@@ -46,17 +47,18 @@ fields-here (w ∷ ws) (n ∷ ns) done s rest at four f here =
 -- a row: its fields, then its times
 row-here : (used : ℕ) (t : Task) (s rest : List ℕ) (at : ℕ) → FineTask used t → drop at s ≡ rowBytes t ++ rest
     → rowAt used s at ≡ go t (at + length (rowBytes t))
-unfolding rowAt rowBytes _then_
+unfolding rowAt _then_
 row-here used t s rest at f here =
     let fields = encodeAll (fieldsOf (rowOf t)) in
     let times = encodeAll (t .times) in
-    let first : drop at s ≡ fields ++ (times ++ rest) = here ∙ append-assoc fields times rest in
+    let first : drop at s ≡ fields ++ (times ++ rest)
+    = here ∙ ap (λ (l : List ℕ). l ++ rest) (row-parts t) ∙ append-assoc fields times rest in
     let others : drop (at + length fields) s ≡ times ++ rest = next-here s fields (times ++ rest) at first in
     rw (
       fields-here (head used) (fieldsOf (rowOf t)) [] s (times ++ rest) at (four-head used) (f .fields) first,
       fields-here _ (t .times) [] s rest (at + length fields) (four-times (length (t .times))) (f .times) others,
     )
-    (ap (go t) (rw (length-append fields times) (omega arith)))
+    (ap (go t) (rw (row-parts t, length-append fields times) (omega arith)))
 
 -- rows one after another
 rows-here : (ts done : List Task) (s rest : List ℕ) (at : ℕ) → FineTasks (length (allTimes done)) ts → drop at s ≡ rowsBytes ts ++ rest
@@ -68,7 +70,7 @@ rows-here (t ∷ ts) done s rest at f here =
     = here ∙ ap (λ (l : List ℕ). l ++ rest) (rows-more t ts) ∙ append-assoc (rowBytes t) (rowsBytes ts) rest in
     let others : drop (at + length (rowBytes t)) s ≡ rowsBytes ts ++ rest = next-here s (rowBytes t) (rowsBytes ts ++ rest) at first in
     let before : length (allTimes done) + length (t .times) ≡ length (allTimes (done ++ (t ∷ [])))
-    = sym (ap length (all-times-snoc done t) ∙ length-append (allTimes done) (t .times)) in
+    = sym (ap length (each-snoc _ done t) ∙ length-append (allTimes done) (t .times)) in
     rw (row-here (length (allTimes done)) t s (rowsBytes ts ++ rest) at (f .0) first)
     (rows-here ts (done ++ (t ∷ [])) s rest (at + length (rowBytes t)) (rw before at (f .1)) others
     ∙ ap₂ go (append-assoc done (t ∷ []) ts) (rw (rows-more t ts, length-append) (omega arith)))
@@ -82,12 +84,12 @@ file-here ts g =
     let others : drop at s ≡ rowsBytes ts ++ []
     = next-here s (encode (length ts)) (rowsBytes ts) 0 (file-parts ts) ∙ sym (append-nil (rowsBytes ts)) in
     let all : at + length (rowsBytes ts) ≡ length s = rw (file-parts ts, length-append) (omega arith) in
-    let none : FineTasks (length (allTimes [])) ts = unfold allTimes in g .fine in
+    let none : FineTasks (length (allTimes [])) ts = unfold each in g .fine in
     let count : Fine (field 0 64) (length ts) = record { least = omega arith; most = g .few; room = g .few } in
     rw (
       field-here (field 0 64) (length ts) s (rowsBytes ts) 0 (omega arith) count (file-parts ts),
       rows-here ts [] s [] at none others,
       all,
       le-ltb (length s) (length s) (omega arith),
-      is-good (clashOf (map rowOf ts)) (g .apart),
+      is-good (clashOf (rowsOf ts)) (g .apart),
     )

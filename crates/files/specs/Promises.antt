@@ -1,9 +1,9 @@
--- How the definitions stand behind the functions on the way: what each answers for a step of reading or writing.
-use Prim.Native.Nat.{ℕ, _+_}
+-- Inner: how the definitions stand behind the functions on the way: what each answers for a step of reading or writing.
+use Prim.Native.Nat.{ℕ, _≤_}
 use mathlib.Core.Path.{_≡_}
 use mathlib.Core.List.{List, []}
 use lib.ListN.{length}
-use lib.Seq.{sets}
+use Rattle.lists.specs.Lists.{over}
 use Rattle.table.specs.Fields.{rowFrom}
 use Rattle.table.specs.Memory.{stored}
 use Rattle.model.specs.Task.{Task}
@@ -33,7 +33,8 @@ abbrev pub asBody : Step (List Task) → Body
 asBody (stop v) = record { next = X.Refused v; table = stored [] }
 asBody (go tasks next) = record { next = X.At next; table = stored tasks }
 
--- numbers put into lent room at a place, and where they end
-pub record PutAt (numbers : List ℕ) (p : ℕ) (out : List ℕ) (r : ℕ) (out′ : List ℕ) : Type 0 where
-  pub place : r ≡ p + length numbers
-  pub stored : out′ ≡ sets out p numbers
+-- numbers in front of lent room that has place for them, and how many they are
+pub record InOrder (numbers out : List ℕ) (r : ℕ) (out′ : List ℕ) : Type 0 where
+  pub count : r ≡ length numbers
+  pub fits : r ≤ length out
+  pub front : out′ ≡ over numbers out

@@ -1,6 +1,6 @@
 -- Document 01, "The file" and "Codes and what they leave": reading goes number by number, and the first fault met is given.
 use Prim.Native.Nat.{ℕ, zero, suc}
-use mathlib.Core.List.{List, [], _∷_, _++_, map}
+use mathlib.Core.List.{List, [], _∷_, _++_}
 use lib.ListN.{length, replicate}
 use lib.Dec.{ltb}
 use Rattle.lists.specs.Lists.{pick}
@@ -12,7 +12,7 @@ use Rattle.table.specs.declared.Verdict.{Verdict}
 use Rattle.table.specs.declared.Verdict.the-variants.{Good, EndsEarly, Malformed, Trailing}
 use Rattle.table.specs.Verdicts.{good}
 use Rattle.table.specs.Fields.{Wanted, field, head, time, rowFrom, judge}
-use Rattle.table.specs.Memory.{rowOf, taskOf, allTimes, stored}
+use Rattle.table.specs.Memory.{taskOf, allTimes, stored, rowsOf}
 use Rattle.table.specs.Clash.{clashOf}
 use Rattle.files.specs.declared.Loaded.{Loaded}
 
@@ -60,7 +60,7 @@ rowsAt (suc k) done s at = rowAt (length (allTimes done)) s at then λ task at. 
 
 -- then 8, then 4, 5 and 6 over the whole table
 unfoldable pub endAt : List ℕ → List Task → ℕ → Step (List Task)
-endAt s tasks at = pick (ltb at (length s)) (stop (Trailing at)) (unless (clashOf (map rowOf tasks)) tasks at)
+endAt s tasks at = pick (ltb at (length s)) (stop (Trailing at)) (unless (clashOf (rowsOf tasks)) tasks at)
 
 -- the file: row count (0 to 64), then the rows, then the end
 unfoldable pub decode : List ℕ → Step (List Task)

@@ -1,15 +1,15 @@
 -- Document 01's round trips and what writing does not look at, as statements.
 use Prim.Native.Nat.{ℕ, _≤_}
 use mathlib.Core.Path.{_≡_}
-use mathlib.Core.List.{List, _++_}
-use lib.ListN.{length, take, drop}
-use Rattle.lists.specs.Lists.{padTo}
+use mathlib.Core.List.{List}
+use lib.ListN.{length, take}
+use Rattle.lists.specs.Lists.{padTo, over}
 use Rattle.numbers.specs.Numbers.{Bytes}
 use Rattle.table.specs.declared.Table.{Table}
 use Rattle.table.specs.declared.Verdict.the-variants.{Good}
 use Rattle.table.specs.Memory.{zeroRow, usedRows, usedTimes}
 use Rattle.files.specs.declared.Loaded.{Loaded}
-use Rattle.files.specs.declared.Written.{Written}
+use Rattle.table.specs.declared.Written.{Written}
 use Rattle.files.specs.Reading.{readAnswer}
 use Rattle.files.specs.Writing.{writeAnswer, bytesAfter, Wrote}
 
@@ -31,7 +31,7 @@ WrittenIsRead = (t : Table) → InMemory t → (out : List ℕ) (r : Written) (o
 abbrev pub ReadIsWritten : Type 0
 ReadIsWritten = (s : List ℕ) → Bytes s → (l : Loaded) → l ≡ readAnswer s → l .verdict ≡ Good
     → (out : List ℕ) (r : Written) (out′ : List ℕ) → Wrote (l .table) out r out′ → length s ≤ length out
-    → (r ≡ record { verdict = Good; count = length s }) × (out′ ≡ s ++ drop (length s) out)
+    → (r ≡ record { verdict = Good; count = length s }) × (out′ ≡ over s out)
 
 -- a good file has at most 5,121 bytes
 abbrev pub GoodFileIsShort : Type 0

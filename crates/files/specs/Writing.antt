@@ -1,28 +1,25 @@
 -- Document 01, "The file" and "Codes and what they leave": what a table is written as, and what writing answers and leaves.
 use Prim.Native.Nat.{ℕ}
-use mathlib.Core.List.{List, [], _∷_, _++_}
-use mathlib.Core.Path.{_≡_}
-use lib.ListN.{length, drop}
-use lib.Dec.{ltb}
-use Rattle.lists.specs.Lists.{pick}
+use mathlib.Core.List.{List, _∷_, _++_}
+use lib.ListN.{length}
+use Rattle.lists.specs.Lists.{each}
 use Rattle.numbers.specs.Numbers.{encodeAll}
 use Rattle.model.specs.Task.{Task}
 use Rattle.table.specs.declared.Table.{Table}
 use Rattle.table.specs.declared.Verdict.{Verdict}
-use Rattle.table.specs.declared.Verdict.the-variants.{Good, NoRoom}
-use Rattle.table.specs.Verdicts.{good, _orElse_}
 use Rattle.table.specs.Fields.{fieldsOf}
 use Rattle.table.specs.Memory.{rowOf, tasksOf}
+use Rattle.table.specs.declared.Written.{Written}
 use Rattle.table.specs.Faults.{faultOf}
-use Rattle.files.specs.declared.Written.{Written}
+use Rattle.table.specs.Written.{verdictOn, answerOn, bytesLeft, Writes}
 
--- the numbers of a file: row count, then for each row the fields, then its times
-unfoldable pub rowsNumbers : List Task → List ℕ
-rowsNumbers [] = []
-rowsNumbers (t ∷ ts) = fieldsOf (rowOf t) ++ (t .times ++ rowsNumbers ts)
+-- the numbers of a row: its fields, then its times
+unfoldable pub rowNumbers : Task → List ℕ
+rowNumbers t = fieldsOf (rowOf t) ++ t .times
 
+-- the numbers of a file: the row count, then those of each row
 unfoldable pub fileNumbers : List Task → List ℕ
-fileNumbers ts = length ts ∷ rowsNumbers ts
+fileNumbers ts = length ts ∷ each rowNumbers ts
 
 unfoldable pub encodeFile : List Task → List ℕ
 encodeFile ts = encodeAll (fileNumbers ts)
@@ -31,20 +28,15 @@ encodeFile ts = encodeAll (fileNumbers ts)
 unfoldable pub fileOf : Table → List ℕ
 fileOf t = encodeFile (tasksOf t)
 
--- the table's own faults, then 10 with the bytes needed
-unfoldable pub writeVerdict : Table → ℕ → Verdict
-writeVerdict t room = faultOf t orElse pick (ltb room (length (fileOf t))) (NoRoom (length (fileOf t))) Good
+-- what writing a table answers and leaves: its own faults stand against it
+abbrev pub writeVerdict : Table → ℕ → Verdict
+writeVerdict t room = verdictOn (faultOf t) (fileOf t) room
 
--- the answer also says how many bytes were written, 0 when refused
-unfoldable pub writeAnswer : Table → ℕ → Written
-writeAnswer t room =
-    record { verdict = writeVerdict t room; count = pick (good (writeVerdict t room)) (length (fileOf t)) 0 }
+abbrev pub writeAnswer : Table → ℕ → Written
+writeAnswer t room = answerOn (faultOf t) (fileOf t) room
 
--- refused writing changes no byte; bytes past the written ones stay
-unfoldable pub bytesAfter : Table → List ℕ → List ℕ
-bytesAfter t out = pick (good (writeVerdict t (length out))) (fileOf t ++ drop (length (fileOf t)) out) out
+abbrev pub bytesAfter : Table → List ℕ → List ℕ
+bytesAfter t out = bytesLeft (faultOf t) (fileOf t) out
 
--- what writing a table into lent bytes gives: the answer and every byte
-pub record Wrote (t : Table) (out : List ℕ) (r : Written) (out′ : List ℕ) : Type 0 where
-  pub answer : r ≡ writeAnswer t (length out)
-  pub bytes : out′ ≡ bytesAfter t out
+abbrev pub Wrote : Table → List ℕ → Written → List ℕ → Type 0
+Wrote t out r out′ = Writes (faultOf t) (fileOf t) out r out′

@@ -1,8 +1,9 @@
 ghost use mathlib.Core.Path.{_≡_};
 ghost use mathlib.Core.List.{List, [], _++_};
 ghost use Prim.Native.Nat.{_+_, _≤_};
-ghost use lib.ListN.{length, replicate, take};
+ghost use lib.ListN.{length, replicate};
 ghost use lib.Seq.{sets};
+ghost use Rattle.lists.specs.Lists.{over};
 ghost use Rattle.numbers.specs.Numbers.{encodeAll};
 ghost use Rattle.model.specs.Task.{Task};
 ghost use Rattle.table.specs.Fields.{want, wanted, Ranges, head, time, fieldsOf};
@@ -10,23 +11,18 @@ ghost use Rattle.table.specs.Verdicts.{codeOf};
 ghost use Rattle.table.specs.Faults.{faultOf};
 ghost use Rattle.table.specs.Memory.{stored, tasksOf};
 ghost use Rattle.files.specs.Reading.{stop, _then_, fieldAt, fieldsAt, rowsAt, endAt, loaded, readAnswer};
-ghost use Rattle.files.specs.Promises.{asField, asHead, asBody, Filled, PutAt};
+ghost use Rattle.files.specs.Promises.{asField, asHead, asBody, Filled, InOrder};
 ghost use Rattle.files.specs.Writing.{fileNumbers, Wrote};
 use numbers::Number;
 use table::Row;
 use table::Table;
 use table::Verdict;
+use table::Written;
 
 // The verdict on a file, and its table: zeros where the verdict is not good.
 pub struct Loaded {
     pub verdict: Verdict,
     pub table: Table,
-}
-
-// The verdict on writing a table, and how many bytes were written.
-pub struct Written {
-    pub verdict: Verdict,
-    pub count: usize,
 }
 
 // A number that may stand there, or why there is none.
@@ -224,22 +220,20 @@ pub fn read(bytes: &[u8]) -> Loaded
     }
 }
 
-// The numbers of one row, at `p` and on; where the next row's begin.
-fn put_row(row: Row, times: &[u32], out: &mut [u32], p: usize) -> usize
-    requires { ⌜ p + (7 + length (now times)) ≤ length (now out) ⌝ }
-    ensures { λ r. ⌜ PutAt (fieldsOf row ++ now (times .entry)) p (now (out .entry)) r (now (out .exit)) ⌝ }
+// Copies the numbers of one row to the front of `out`: its fields, then its times.
+fn put_row(row: Row, times: &[u32], out: &mut [u32])
+    requires { ⌜ 7 + length (now times) ≤ length (now out) ⌝ }
+    ensures { λ r. ⌜ now (out .exit) ≡ sets (now (out .entry)) 0 (fieldsOf row ++ now (times .entry)) ⌝ }
 {
     let fields = table::fields_of(row);
-    lists::copy(&fields, &mut out[p..]);
-    let q = p + 7;
-    lists::copy(times, &mut out[q..]);
-    q + times.len()
+    lists::copy(&fields, out);
+    lists::copy(times, &mut out[7..]);
 }
 
 // The numbers of a good table's file, one after another; how many there are.
 fn file_numbers(t: Table, out: &mut [u32]) -> usize
     requires { ⌜ (codeOf (faultOf t) ≡ 0) × (length (now out) ≡ 1473) ⌝ }
-    ensures { λ r. ⌜ (r ≤ 1473) × (take r (now (out .exit)) ≡ fileNumbers (tasksOf t)) ⌝ }
+    ensures { λ r. ⌜ InOrder (fileNumbers (tasksOf t)) (now (out .entry)) r (now (out .exit)) ⌝ }
 {
     let n = t.count;
     let times = t.times;
@@ -250,7 +244,8 @@ fn file_numbers(t: Table, out: &mut [u32]) -> usize
     while i < n {
         let row = t.rows[i];
         let end = used + row.parts as usize;
-        p = put_row(row, &times[used..end], out, p);
+        put_row(row, &times[used..end], &mut out[p..]);
+        p = p + 7 + row.parts as usize;
         used = end;
         i += 1;
     }
@@ -274,7 +269,7 @@ fn size_of_all(numbers: &[u32]) -> usize
 // Writes numbers one after another to the front of `out`.
 fn put_all(out: &mut [u8], numbers: &[u32])
     requires { ⌜ length (encodeAll (now numbers)) ≤ length (now out) ⌝ }
-    ensures { λ r. ⌜ now (out .exit) ≡ sets (now (out .entry)) 0 (encodeAll (now (numbers .entry))) ⌝ }
+    ensures { λ r. ⌜ now (out .exit) ≡ over (encodeAll (now (numbers .entry))) (now (out .entry)) ⌝ }
 {
     let mut p = 0;
     let mut i = 0;
@@ -290,19 +285,13 @@ pub fn write(table: Table, out: &mut [u8]) -> Written
 {
     let fault = table::fault_of(table);
     if table::code_of(fault) != 0 {
-        return Written {
-            verdict: fault,
-            count: 0,
-        };
+        return table::refused(fault);
     }
     let mut numbers = [0u32; 1473];
     let n = file_numbers(table, &mut numbers);
     let size = size_of_all(&numbers[..n]);
     if out.len() < size {
-        return Written {
-            verdict: Verdict::NoRoom(size),
-            count: 0,
-        };
+        return table::refused(Verdict::NoRoom(size));
     }
     put_all(out, &numbers[..n]);
     Written {

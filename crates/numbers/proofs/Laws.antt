@@ -6,7 +6,7 @@ use native.Mathlib.Numerals.{add-one, sub-one}
 use native.Mathlib.Omega.{arith}
 use borrow.Author.Tests.{lt-ltb, le-ltb}
 use mathlib.Core.Path.{_≡_, refl, sym, ap, ap₂, _∙_}
-use mathlib.Core.List.{List, [], _∷_, _++_, append-assoc}
+use mathlib.Core.List.{List, [], _∷_}
 use mathlib.Core.Bool.{Bool, true, false}
 use lib.ListN.{length, getD, take, drop, drop-of-length-le}
 use lib.Seq.{drop-cons, take-nil}
@@ -14,7 +14,7 @@ use lib.Dec.{ltb}
 use Rattle.lists.specs.Lists.{pick}
 use Rattle.numbers.specs.declared.Number.{Number}
 use Rattle.numbers.specs.declared.Number.the-variants.{Got, EndsEarly, Malformed}
-use Rattle.numbers.specs.Numbers.{after, last, groups, encodeIn, encode, encodeAll}
+use Rattle.numbers.specs.Numbers.{after, last, groups, encodeIn, encode}
 
 -- two low parts are one
 pub after-after : (v w u v′ w′ u′ : ℕ) (x : Number)
@@ -115,19 +115,3 @@ encode-in-few (suc k) n = go (ltb n 128) (encode-in-few k (n / 128))
 pub encode-few : (n : ℕ) → length (encode n) ≤ 5
 unfolding encode
 encode-few n = encode-in-few 5 n
-
--- the numbers from a place on: the first and the rest, or nothing
-pub encode-all-more : (ns : List ℕ) (i : ℕ) → i < length ns
-    → encodeAll (drop i ns) ≡ encode (getD ns i 0) ++ encodeAll (drop (i + 1) ns)
-unfolding encodeAll
-encode-all-more ns i h = rw (add-one, drop-cons ns i 0)
-
-pub encode-all-none : (ns : List ℕ) (i : ℕ) → length ns ≤ i → encodeAll (drop i ns) ≡ []
-unfolding encodeAll
-encode-all-none ns i h = rw (drop-of-length-le ns h)
-
--- one run after another
-pub encode-all-append : (ms ns : List ℕ) → encodeAll (ms ++ ns) ≡ encodeAll ms ++ encodeAll ns
-unfolding encodeAll
-encode-all-append [] ns = refl
-encode-all-append (m ∷ ms) ns = rw append-assoc (ap (_++_ (encode m)) (encode-all-append ms ns))

@@ -1,12 +1,12 @@
 -- Document 01, "The file": numbers in groups of seven bits, low group first, the high bit set on every byte but the last, shortest form only.
 use Prim.Native.Nat.{ℕ, zero, suc, _+_, _-_, _*_, _/_, _%_, _<_}
 use mathlib.Core.Path.{_≡_}
-use mathlib.Core.List.{List, [], _∷_, _++_}
+use mathlib.Core.List.{List, [], _∷_}
 use mathlib.Core.Bool.{Bool, true, false}
 use lib.ListN.{length, drop, getD}
 use lib.Seq.{sets}
 use lib.Dec.{ltb}
-use Rattle.lists.specs.Lists.{pick}
+use Rattle.lists.specs.Lists.{pick, each}
 use Rattle.numbers.specs.declared.Number.{Number}
 use Rattle.numbers.specs.declared.Number.the-variants.{Got, EndsEarly, Malformed}
 
@@ -44,9 +44,8 @@ unfoldable pub encode : ℕ → List ℕ
 encode n = encodeIn 5 n
 
 -- numbers one after another
-unfoldable pub encodeAll : List ℕ → List ℕ
-encodeAll [] = []
-encodeAll (n ∷ ns) = encode n ++ encodeAll ns
+abbrev pub encodeAll : List ℕ → List ℕ
+encodeAll ns = each encode ns
 
 -- a number is put at the front of lent bytes, as far as they reach
 pub record Put (v : ℕ) (out : List ℕ) (r : ℕ) (out′ : List ℕ) : Type 0 where

@@ -1,21 +1,21 @@
 -- Going through a table row by row: which tasks are still ahead, and where the next one's times begin. Assumes nothing.
 use Prim.Native.Nat.{ℕ, _+_, _-_, _≤_, _<_}
-use native.Mathlib.Nat.{add-zero}
 use native.Mathlib.Omega.{arith}
 use mathlib.Core.Path.{_≡_, refl, sym, ap, _∙_}
-use mathlib.Core.List.{List, [], _∷_, _++_, map, append-assoc, List·Memᴰ·head, List·Memᴰ·tail}
-use lib.ListN.{length, getD, take, drop, length-append, take-append-drop}
-use lib.Seq.{getD-drop, drop-drop, take-append-seam, drop-append-seam}
-use Rattle.lists.specs.Lists.{_∈_}
+use mathlib.Core.List.{List, [], _∷_, _++_, append-assoc, List·Memᴰ·head, List·Memᴰ·tail}
+use lib.ListN.{length, getD, take, drop, length-append, length-drop, take-append-drop}
+use lib.Seq.{drop-drop, take-append-seam, drop-append-seam}
+use Rattle.lists.specs.Lists.{_∈_, each}
 use Rattle.lists.proofs.Parts.{part-is}
 use Rattle.model.specs.Task.{Task}
 use Rattle.model.specs.Rows.{GoodTask}
 use Rattle.table.specs.declared.Row.{Row}
 use Rattle.table.specs.declared.Table.{Table}
 use Rattle.table.specs.Verdicts.{codeOf}
-use Rattle.table.specs.Memory.{zeroRow, rowOf, allTimes, stored, usedRows, usedTimes, partsIn, tasksOf}
+use Rattle.table.specs.Memory.{zeroRow, rowOf, allTimes, stored, usedRows, usedTimes, partsIn, tasksOf, rowsOf}
 use Rattle.table.specs.Faults.{faultOf}
-use Rattle.table.proofs.Stored.{times-found}
+use Rattle.table.proofs.Rows.{used-next}
+use Rattle.table.proofs.Stored.{stored-rows, times-found}
 use Rattle.table.proofs.GoodTasks.{times-fit, count-few, count-same, rows-same, tasks-good}
 use Rattle.table.proofs.EachGood.{each-good}
 
@@ -25,8 +25,7 @@ pub record Ahead (t : Table) (used i : ℕ) (left : List Task) : Type 0 where
   pub upto : i + length left ≡ t .count
   pub room : used + length (allTimes left) ≤ 1024
   pub good : (u : Task) → u ∈ left → GoodTask u
-  pub more-rows : List Row
-  pub rows : drop i (t .rows) ≡ map rowOf left ++ more-rows
+  pub rows : drop i (usedRows t) ≡ rowsOf left
   pub more-times : List ℕ
   pub times : drop used (t .times) ≡ allTimes left ++ more-times
 
@@ -48,11 +47,13 @@ pub record Next (t : Table) (used i : ℕ) (left : List Task) : Type 0 where
 module _ {t : Table} {used i : ℕ} where
   -- there is a next task before the last row
   pub next : (left : List Task) → Ahead t used i left → i < t .count → Next t used i left
-  unfolding allTimes
+  unfolding each
   next [] a h = absurd (omega (arith, a .upto))
   next (u ∷ us) a h =
-      let row : getD (t .rows) i zeroRow ≡ rowOf u
-      = sym (rw add-zero at (getD-drop i (t .rows) 0 zeroRow)) ∙ ap (λ (l : List Row). getD l 0 zeroRow) (a .rows) in
+      let some : i < length (usedRows t) = omega (arith, length-drop i (usedRows t), ap length (a .rows)) in
+      let rows : getD (t .rows) i zeroRow ∷ drop (i + 1) (usedRows t) ≡ rowOf u ∷ rowsOf us
+      = sym (used-next (t .count) (t .rows) i some) ∙ a .rows in
+      let row : getD (t .rows) i zeroRow ≡ rowOf u = cc in
       let parts : getD (t .rows) i zeroRow .parts ≡ length (u .times) = ap (λ (r : Row). r .parts) row in
       let times : drop used (t .times) ≡ u .times ++ (allTimes us ++ a .more-times)
       = a .times ∙ append-assoc (u .times) (allTimes us) (a .more-times) in
@@ -71,8 +72,7 @@ module _ {t : Table} {used i : ℕ} where
               upto = omega (arith, a .upto);
               room = omega (arith, a .room);
               good = λ v m. a .good v (List·Memᴰ·tail m);
-              more-rows = a .more-rows;
-              rows = sym (drop-drop 1 i (t .rows)) ∙ ap (drop 1) (a .rows);
+              rows = cc;
               more-times = a .more-times;
               times = sym (drop-drop _ used (t .times)) ∙ rw (parts, times) (drop-append-seam (u .times) _);
             };
@@ -82,6 +82,11 @@ module _ {t : Table} {used i : ℕ} where
   pub none-ahead : (left : List Task) → Ahead t used i left → t .count ≤ i → left ≡ []
   none-ahead [] a h = refl
   none-ahead (u ∷ us) a h = absurd (omega (arith, a .upto))
+
+-- as many times as the row says
+pub lent-length : {t : Table} {used i : ℕ} {left : List Task} → Next t used i left
+    → length (lent t used i) ≡ getD (t .rows) i zeroRow .parts
+lent-length n = ap length (n .own) ∙ sym (ap (λ (r : Row). r .parts) (n .row))
 
 -- ---- where a walk starts
 
@@ -94,8 +99,7 @@ stored-ahead ts few room good =
       upto = omega arith;
       room = omega arith;
       good = good;
-      more-rows = _;
-      rows = refl;
+      rows = stored-rows ts;
       more-times = _;
       times = refl;
     }
@@ -109,8 +113,7 @@ good-ahead t rows times e =
       upto = omega (arith, count-same t rows times e);
       room = times-fit 0 (tasksOf t) (omega arith) (tasks-good t rows times e .fine);
       good = each-good t rows times e;
-      more-rows = drop (t .count) (t .rows);
-      rows = rw (rows-same t rows times e) (sym (take-append-drop (t .count) (t .rows)));
+      rows = sym (rows-same t rows times e);
       more-times = drop (partsIn (usedRows t)) (t .times);
       times = rw own (sym (take-append-drop (partsIn (usedRows t)) (t .times)));
     }

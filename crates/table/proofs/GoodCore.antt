@@ -6,7 +6,7 @@ use borrow.Author.Tests.{eq-eqb, eqb-true, ltb-false}
 use mathlib.Core.Path.{_≡_, sym, ap, _∙_}
 use mathlib.Core.Bool.{true, false, or-true}
 use mathlib.Core.Logic.{⊎-elim}
-use mathlib.Core.List.{List, [], _∷_, map, Memᴰ·map}
+use mathlib.Core.List.{List, [], _∷_, Memᴰ·map}
 use lib.ListN.{length}
 use lib.Dec.{eqb, ltb}
 use Rattle.lists.specs.Lists.{_∈_, keep}
@@ -21,7 +21,7 @@ use Rattle.table.specs.declared.Row.{Row}
 use Rattle.table.specs.declared.Rule.the-variants as R
 use Rattle.table.specs.declared.Table.{Table}
 use Rattle.table.specs.Verdicts.{codeOf}
-use Rattle.table.specs.Memory.{rowOf, tasksOf}
+use Rattle.table.specs.Memory.{rowOf, tasksOf, rowsOf}
 use Rattle.table.specs.Clash.{coopAbove, breaks, broken, clashOf}
 use Rattle.table.specs.Faults.{faultOf}
 use Rattle.table.proofs.Codes.{first-good, then-good}
@@ -40,7 +40,7 @@ unfolding breaks
 breaks-priority a b e q = rw (e, eq-eqb (a .priority) (b .priority) q)
 
 -- no priority twice
-core-distinct : (c : ℕ) (ts : List Task) → Apart (breaks R.SamePriority) (map rowOf ts) → Distinct (onCore c ts)
+core-distinct : (c : ℕ) (ts : List Task) → Apart (breaks R.SamePriority) (rowsOf ts) → Distinct (onCore c ts)
 unfolding onCore keep Distinct Apart
 core-distinct c [] d = tt
 core-distinct c (t ∷ ts) d =
@@ -73,7 +73,7 @@ module _ (a b : Task) (core : eqb (a .core) (b .core) ≡ true) (back : eqb (b .
       (λ t. t)
 
 -- the rows of a core of a good table
-module _ (c : ℕ) (ts : List Task) (few : length ts ≤ 64) (d : Distinct (onCore c ts)) (k : Apart (breaks R.KindsCrossed) (map rowOf ts)) where
+module _ (c : ℕ) (ts : List Task) (few : length ts ≤ 64) (d : Distinct (onCore c ts)) (k : Apart (breaks R.KindsCrossed) (rowsOf ts)) where
   -- a cooperative one is not above a preemptive one
   not-above : (a b : Task) → a ∈ onCore c ts → b ∈ onCore c ts → a .kind ≡ 0 → b .kind ≡ 1 → b .priority ≤ a .priority
   unfolding onCore
@@ -85,7 +85,7 @@ module _ (c : ℕ) (ts : List Task) (few : length ts ≤ 64) (d : Distinct (onCo
       ltb-false (a .priority) (b .priority)
       (⊎-elim (λ e. absurd (omega (arith, ap (λ (r : Row). r .kind) e)))
       (λ w. ⊎-elim (later a b core back pre coop) (earlier a b core back pre coop) w)
-      (apart-two (breaks R.KindsCrossed) (map rowOf ts) k (rowOf a) (rowOf b) (Memᴰ·map rowOf (p .0)) (Memᴰ·map rowOf (q .0))))
+      (apart-two (breaks R.KindsCrossed) (rowsOf ts) k (rowOf a) (rowOf b) (Memᴰ·map rowOf (p .0)) (Memᴰ·map rowOf (q .0))))
 
   -- so it is below
   core-ordered : (a b : Task) → a ∈ onCore c ts → b ∈ onCore c ts → a .kind ≡ 0 → b .kind ≡ 1 → b .priority < a .priority
@@ -104,16 +104,16 @@ module _ (c : ℕ) (ts : List Task) (few : length ts ≤ 64) (d : Distinct (onCo
 -- tasks that do not clash
 module _ (ts : List Task) (g : GoodTasks ts) where
   -- no priority twice on a core
-  priorities-apart : Apart (breaks R.SamePriority) (map rowOf ts)
+  priorities-apart : Apart (breaks R.SamePriority) (rowsOf ts)
   unfolding clashOf
-  priorities-apart = rule-holds R.SamePriority (map rowOf ts) (first-good _ _ (then-good (broken R.SameId (map rowOf ts)) _ (g .apart)))
+  priorities-apart = rule-holds R.SamePriority (rowsOf ts) (first-good _ _ (then-good (broken R.SameId (rowsOf ts)) _ (g .apart)))
 
   -- no cooperative row above a preemptive one
-  kinds-apart : Apart (breaks R.KindsCrossed) (map rowOf ts)
+  kinds-apart : Apart (breaks R.KindsCrossed) (rowsOf ts)
   unfolding clashOf
   kinds-apart =
-      rule-holds R.KindsCrossed (map rowOf ts)
-      (then-good (broken R.SamePriority (map rowOf ts)) _ (then-good (broken R.SameId (map rowOf ts)) _ (g .apart)))
+      rule-holds R.KindsCrossed (rowsOf ts)
+      (then-good (broken R.SamePriority (rowsOf ts)) _ (then-good (broken R.SameId (rowsOf ts)) _ (g .apart)))
 
 -- the rows of each core of a table without a fault
 pub good-core : (t : Table) → length (t .rows) ≡ 64 → length (t .times) ≡ 1024 → codeOf (faultOf t) ≡ 0

@@ -4,10 +4,10 @@ use native.Mathlib.Omega.{arith}
 use borrow.Author.Tests.{lt-ltb, le-ltb}
 use mathlib.Core.Path.{_≡_, refl, sym, ap, _∙_}
 use mathlib.Core.Logic.{⊎-elim}
-use mathlib.Core.List.{List, [], _∷_, _++_, map, append-assoc}
+use mathlib.Core.List.{List, [], _∷_, _++_, append-assoc}
 use lib.ListN.{length, take, drop, replicate, length-append, length-drop, length-replicate}
 use lib.Seq.{take-append-seam, drop-append-seam, length-take-le}
-use Rattle.lists.specs.Lists.{total, padTo}
+use Rattle.lists.specs.Lists.{total, padTo, each}
 use Rattle.lists.proofs.Tests.{either}
 use Rattle.model.specs.Task.{Task}
 use Rattle.table.specs.declared.Row.{Row}
@@ -15,7 +15,7 @@ use Rattle.table.specs.declared.Table.{Table}
 use Rattle.table.specs.declared.Verdict.the-variants.{Good}
 use Rattle.table.specs.Verdicts.{codeOf, _orElse_}
 use Rattle.table.specs.Fields.{head, time, fieldsOf}
-use Rattle.table.specs.Memory.{zeroRow, rowOf, taskOf, allTimes, stored, usedRows, usedTimes, partsIn, tasksFrom, tasksOf}
+use Rattle.table.specs.Memory.{zeroRow, rowOf, taskOf, allTimes, stored, usedRows, usedTimes, partsIn, tasksFrom, tasksOf, rowsOf}
 use Rattle.table.specs.Clash.{clashOf}
 use Rattle.table.specs.Faults.{rowFault, rowsFault, faultOf}
 use Rattle.table.proofs.Codes.{or-good, first-good, then-good}
@@ -37,11 +37,11 @@ FineTasks used (t ∷ ts) = FineTask used t × FineTasks (used + length (t .time
 pub record GoodTasks (ts : List Task) : Type 0 where
   pub few : length ts ≤ 64
   pub fine : FineTasks 0 ts
-  pub apart : codeOf (clashOf (map rowOf ts)) ≡ 0
+  pub apart : codeOf (clashOf (rowsOf ts)) ≡ 0
 
 -- they have at most 1,024 times in all
 pub times-fit : (used : ℕ) (ts : List Task) → used ≤ 1024 → FineTasks used ts → used + length (allTimes ts) ≤ 1024
-unfolding FineTasks allTimes
+unfolding FineTasks each
 times-fit used [] h f = omega arith
 times-fit used (t ∷ ts) h f =
     let here : used + length (t .times) ≤ 1024 = good-head used (rowOf t) (f .0 .fields) .room in
@@ -57,8 +57,8 @@ row-good i used t rest f =
     ∙ rw (take-append-seam (t .times) rest) (all-good _ i (t .times) (f .times))
 
 -- rows one after another
-rows-good : (i used : ℕ) (ts : List Task) (rest : List ℕ) → FineTasks used ts → rowsFault i used (map rowOf ts) (allTimes ts ++ rest) ≡ Good
-unfolding rowsFault FineTasks allTimes
+rows-good : (i used : ℕ) (ts : List Task) (rest : List ℕ) → FineTasks used ts → rowsFault i used (rowsOf ts) (allTimes ts ++ rest) ≡ Good
+unfolding rowsFault FineTasks each
 rows-good i used [] rest f = refl
 rows-good i used (t ∷ ts) rest f =
     rw (append-assoc (t .times) (allTimes ts) rest)
@@ -70,7 +70,7 @@ pub stored-good : (ts : List Task) → GoodTasks ts → codeOf (faultOf (stored 
 unfolding faultOf
 stored-good ts g =
     rw (le-ltb 64 (length ts) (g .few), stored-rows ts)
-    (ap codeOf (or-good _ (clashOf (map rowOf ts)) (ap codeOf (rows-good 0 0 ts _ (g .fine)))) ∙ g .apart)
+    (ap codeOf (or-good _ (clashOf (rowsOf ts)) (ap codeOf (rows-good 0 0 ts _ (g .fine)))) ∙ g .apart)
 
 -- ---- a table without a fault has good tasks
 
@@ -124,7 +124,7 @@ module _ (t : Table) (rows : length (t .rows) ≡ 64) (times : length (t .times)
   all-found = found 0 0 (usedRows t) (t .times) (omega arith) (first-good _ _ no-fault)
 
   -- its rows are those of its tasks
-  pub rows-same : map rowOf (tasksOf t) ≡ usedRows t
+  pub rows-same : rowsOf (tasksOf t) ≡ usedRows t
   unfolding tasksOf
   rows-same = rows-found (usedRows t) (t .times) (all-found .enough)
 

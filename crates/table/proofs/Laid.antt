@@ -2,23 +2,25 @@
 use Prim.Native.Nat.{ℕ, _+_, _-_, _≤_, _<_}
 use native.Mathlib.Omega.{arith}
 use mathlib.Core.Path.{_≡_, sym, ap, _∙_}
-use mathlib.Core.List.{List, [], _∷_, _++_, map, map-append}
-use lib.ListN.{length, take, drop, set, length-map, length-append, length-drop}
+use mathlib.Core.List.{List, [], _∷_, _++_}
+use lib.ListN.{length, take, drop, set, length-append, length-drop}
 use lib.Seq.{sets, length-take-le}
 use Rattle.lists.specs.Lists.{padTo}
+use Rattle.lists.proofs.Each.{each-snoc}
 use Rattle.lists.proofs.Pads.{set-pad}
 use Rattle.lists.proofs.PadStores.{pad-length, sets-pad}
+use Rattle.lists.proofs.Splices.{splice-sets}
 use Rattle.lists.proofs.Stores.{sets-from}
 use Rattle.model.specs.Task.{Task}
 use Rattle.table.specs.declared.Row.{Row}
-use Rattle.table.specs.Memory.{zeroRow, rowOf, allTimes, stored}
-use Rattle.table.proofs.Stored.{all-times-snoc}
+use Rattle.table.specs.Memory.{zeroRow, rowOf, allTimes, stored, rowsOf}
+use Rattle.table.proofs.Stored.{rows-length, rows-snoc}
 
 -- `count` tasks that have `kept` times lie there
 pub record Laid (mine : List Task) (rows : List Row) (times : List ℕ) (count kept : ℕ) : Type 0 where
   pub number : count ≡ length mine
   pub total : kept ≡ length (allTimes mine)
-  pub rows-are : rows ≡ padTo zeroRow 64 (map rowOf mine)
+  pub rows-are : rows ≡ padTo zeroRow 64 (rowsOf mine)
   pub times-are : times ≡ padTo 0 1024 (allTimes mine)
 
 module _ {mine : List Task} {rows : List Row} {times : List ℕ} {count kept : ℕ} (l : Laid mine rows times count kept) where
@@ -37,30 +39,42 @@ module _ {mine : List Task} {rows : List Row} {times : List ℕ} {count kept : �
   -- one task more, by its row and its times
   module _ (u : Task) (r : Row) (own : List ℕ) (row : r ≡ rowOf u) (times-own : own ≡ u .times) where
     -- the row is set behind the rows
-    rows-more : count < 64 → set rows count r ≡ padTo zeroRow 64 (map rowOf (mine ++ (u ∷ [])))
+    rows-more : count < 64 → set rows count r ≡ padTo zeroRow 64 (rowsOf (mine ++ (u ∷ [])))
     rows-more h =
-        let at-end : count ≡ length (map rowOf mine) = l .number ∙ sym (length-map mine rowOf) in
-        rw (l .rows-are, at-end, row, map-append rowOf mine (u ∷ []))
-        (set-pad zeroRow 64 (map rowOf mine) (rowOf u) (omega arith))
+        let at-end : count ≡ length (rowsOf mine) = l .number ∙ sym (rows-length mine) in
+        rw (l .rows-are, at-end, row, rows-snoc mine u)
+        (set-pad zeroRow 64 (rowsOf mine) (rowOf u) (omega arith))
 
-    -- the times are stored in a part that is lent, and put back
-    times-more : (part : List ℕ) → kept + length own ≤ 1024 → part ≡ sets (take (1024 - kept) (drop kept times)) 0 own
-        → take kept times ++ (part ++ drop (1024 - kept) (drop kept times)) ≡ padTo 0 1024 (allTimes (mine ++ (u ∷ [])))
-    times-more part h e =
-        let long : length times ≡ 1024 = times-long (omega arith) in
-        let put : take kept times ++ (part ++ drop (1024 - kept) (drop kept times)) ≡ sets times kept own
-        = rw (e, ← long) (sets-from times kept own (omega arith)) in
+    -- the times are stored behind the times
+    times-more : kept + length own ≤ 1024 → sets times kept own ≡ padTo 0 1024 (allTimes (mine ++ (u ∷ [])))
+    times-more h =
         let room : length (allTimes mine) + length (u .times) ≤ 1024 = omega (arith, l .total, ap length times-own) in
-        put ∙ rw (l .times-are, l .total, times-own, all-times-snoc) (sets-pad 0 1024 (allTimes mine) (u .times) room)
+        rw (l .times-are, l .total, times-own, each-snoc) (sets-pad 0 1024 (allTimes mine) (u .times) room)
 
     -- and the task lies behind the others
+    laid-sets : (after : List ℕ) → count < 64 → kept + length own ≤ 1024 → after ≡ sets times kept own
+        → Laid (mine ++ (u ∷ [])) (set rows count r) after (count + 1) (kept + r .parts)
+    laid-sets after few room e =
+        record {
+          number = rw length-append (omega (arith, l .number));
+          total = rw (each-snoc, length-append) (omega (arith, l .total, ap (λ (x : Row). x .parts) row));
+          rows-are = rows-more few;
+          times-are = e ∙ times-more room;
+        }
+
+    -- so where all the times that are left are lent, and put back
     pub laid-more : (part : List ℕ) → count < 64 → kept + length own ≤ 1024 → part ≡ sets (take (1024 - kept) (drop kept times)) 0 own
         → Laid (mine ++ (u ∷ [])) (set rows count r) (take kept times ++ (part ++ drop (1024 - kept) (drop kept times)))
         (count + 1) (kept + r .parts)
     laid-more part few room e =
-        record {
-          number = rw length-append (omega (arith, l .number));
-          total = rw (all-times-snoc, length-append) (omega (arith, l .total, ap (λ (x : Row). x .parts) row));
-          rows-are = rows-more few;
-          times-are = times-more part room e;
-        }
+        let long : length times ≡ 1024 = times-long (omega arith) in
+        laid-sets _ few room (rw (e, ← long) (sets-from times kept own (omega arith)))
+
+    -- and where as many are lent as the row has parts
+    pub laid-part : count < 64 → kept + r .parts ≤ 1024
+        → Laid (mine ++ (u ∷ [])) (set rows count r) (take kept times ++ (own ++ drop (kept + r .parts - kept) (drop kept times)))
+        (count + 1) (kept + r .parts)
+    laid-part few room =
+        let long : length times ≡ 1024 = times-long (omega arith) in
+        let full : length own ≡ r .parts = ap length times-own ∙ sym (ap (λ (x : Row). x .parts) row) in
+        laid-sets _ few (rw full room) (splice-sets times kept (r .parts) own full (rw long room))

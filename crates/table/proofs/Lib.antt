@@ -12,4 +12,5 @@ pub mod Laid
 pub mod Seven
 pub mod NoClash
 pub mod GoodCore
-pub mod SmallCodes
+pub mod ReadingCodes
+pub mod Writes

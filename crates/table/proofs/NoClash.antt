@@ -14,7 +14,7 @@ use Rattle.table.specs.declared.Row.{Row}
 use Rattle.table.specs.declared.Rule.{Rule}
 use Rattle.table.specs.declared.Rule.the-variants as R
 use Rattle.table.specs.Verdicts.{codeOf}
-use Rattle.table.specs.Clash.{breaks, clashAfter, clash, named, broken}
+use Rattle.table.specs.Clash.{breaks, clashAfter, clash, ruleVerdict, broken}
 
 -- no element passes a test with an earlier one
 unfoldable pub Apart : {A : Type 0} → (A → A → Bool) → List A → Type 0
@@ -62,17 +62,17 @@ module _ {A : Type 0} where
       go (inr p) (inr q) below = below p q
 
 -- a rule's verdict that names a row is no good one
-named-fault : (rule : Rule) (n : ℕ) → codeOf (named rule n) ≡ 0 → ⊥
-named-fault R.SameId n q = omega (arith, q)
-named-fault R.SamePriority n q = omega (arith, q)
-named-fault R.KindsCrossed n q = omega (arith, q)
+verdict-fault : (rule : Rule) (n : ℕ) → codeOf (ruleVerdict rule n) ≡ 0 → ⊥
+verdict-fault R.SameId n q = omega (arith, q)
+verdict-fault R.SamePriority n q = omega (arith, q)
+verdict-fault R.KindsCrossed n q = omega (arith, q)
 
 -- where the verdict is good, no row breaks the rule with an earlier one
 pub rule-holds : (rule : Rule) (rows : List Row) → codeOf (broken rule rows) ≡ 0 → Apart (breaks rule) rows
 unfolding broken
 rule-holds rule rows e =
     no-clash (breaks rule) [] rows
-    (⊎-elim (λ h. absurd (named-fault rule (clash (breaks rule) rows) (rw (lt-ltb (clash (breaks rule) rows) (length rows) h) at e)))
+    (⊎-elim (λ h. absurd (verdict-fault rule (clash (breaks rule) rows) (rw (lt-ltb (clash (breaks rule) rows) (length rows) h) at e)))
     (λ h. h)
     (either (clash (breaks rule) rows) (length rows)))
     .1

@@ -1,6 +1,7 @@
 -- Laws of the rows and times that a table uses. Assumes nothing.
 use Prim.Native.Nat.{ℕ, _+_, min, _≤_, _<_}
 use native.Mathlib.Numerals.{add-one}
+use native.Mathlib.Omega.{arith}
 use mathlib.Core.Path.{_≡_, sym, ap, _∙_}
 use mathlib.Core.List.{List, _∷_, map}
 use lib.Seq.{getD-take, drop-cons, drop-drop, length-take-le}
@@ -23,11 +24,16 @@ pub used-row : (count : ℕ) (rows : List Row) (i : ℕ) → i < count → getD 
 used-row count rows i h = getD-take count rows i zeroRow h
 
 -- the used rows from row i on: row i and the others
+pub used-next : (count : ℕ) (rows : List Row) (i : ℕ) → i < length (take count rows)
+    → drop i (take count rows) ≡ getD rows i zeroRow ∷ drop (i + 1) (take count rows)
+used-next count rows i h =
+    let inside : i < count = omega (arith, length-take count rows) in
+    drop-cons (take count rows) i zeroRow h ∙ rw (used-row count rows i inside, add-one)
+
+-- so where there are as many rows as the count says
 pub used-more : (count : ℕ) (rows : List Row) (i : ℕ) → i < count → count ≤ length rows
     → drop i (take count rows) ≡ getD rows i zeroRow ∷ drop (i + 1) (take count rows)
-used-more count rows i h long =
-    let inside : i < length (take count rows) = rw (length-take-le count rows long) h in
-    drop-cons (take count rows) i zeroRow inside ∙ rw (used-row count rows i h, add-one)
+used-more count rows i h long = used-next count rows i (rw (length-take-le count rows long) h)
 
 -- the faults from row i on: those of row i, then those of the others
 pub faults-more : (rows : List Row) (r : Row) (times : List ℕ) (i used : ℕ) → drop i rows ≡ r ∷ drop (i + 1) rows

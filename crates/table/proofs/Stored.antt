@@ -2,37 +2,39 @@
 use Prim.Native.Nat.{ℕ, suc, _+_, _≤_}
 use native.Mathlib.Omega.{arith}
 use mathlib.Core.Path.{_≡_, refl, sym, ap, ap₂, _∙_}
-use mathlib.Core.List.{List, [], _∷_, _++_, map, append-assoc, append-nil}
+use mathlib.Core.List.{List, [], _∷_, _++_, map-append, append-assoc}
 use lib.ListN.{length, take, drop, length-map, length-drop}
 use lib.Seq.{take-append-seam, drop-append-seam, take-at, take-add, length-take-le}
-use Rattle.lists.specs.Lists.{total}
+use Rattle.lists.specs.Lists.{total, each}
 use Rattle.lists.proofs.Fronts.{take-front, drop-front}
 use Rattle.model.specs.Task.{Task}
 use Rattle.table.specs.declared.Row.{Row}
 use Rattle.table.specs.declared.Table.{Table}
 use Rattle.table.specs.Verdicts.{_orElse_}
-use Rattle.table.specs.Memory.{rowOf, taskOf, allTimes, stored, usedRows, usedTimes, partsIn, tasksFrom, tasksOf}
+use Rattle.table.specs.Memory.{rowOf, taskOf, allTimes, stored, usedRows, usedTimes, partsIn, tasksFrom, tasksOf, rowsOf}
 use Rattle.table.specs.Faults.{rowFault, rowsFault, faultOf}
 
--- one task more: its times stand last
-pub all-times-snoc : (ts : List Task) (t : Task) → allTimes (ts ++ (t ∷ [])) ≡ allTimes ts ++ t .times
-unfolding allTimes
-all-times-snoc [] t = append-nil (t .times)
-all-times-snoc (u ∷ ts) t = rw append-assoc (ap (_++_ (u .times)) (all-times-snoc ts t))
+-- as many rows as tasks
+pub rows-length : (ts : List Task) → length (rowsOf ts) ≡ length ts
+rows-length ts = length-map ts rowOf
+
+-- one task more: its row stands last
+pub rows-snoc : (ts : List Task) (t : Task) → rowsOf (ts ++ (t ∷ [])) ≡ rowsOf ts ++ (rowOf t ∷ [])
+rows-snoc ts t = map-append rowOf ts (t ∷ [])
 
 -- ---- what is stored is found again
 
 -- the rows and times of tasks, whatever stands behind the times, are those tasks
-tasks-found : (ts : List Task) (rest : List ℕ) → tasksFrom (map rowOf ts) (allTimes ts ++ rest) ≡ ts
-unfolding tasksFrom allTimes
+tasks-found : (ts : List Task) (rest : List ℕ) → tasksFrom (rowsOf ts) (allTimes ts ++ rest) ≡ ts
+unfolding tasksFrom each
 tasks-found [] rest = refl
 tasks-found (t ∷ ts) rest =
     rw (append-assoc (t .times) (allTimes ts) rest, take-append-seam, drop-append-seam)
     (ap (_∷_ t) (tasks-found ts rest))
 
 -- the used rows of stored tasks
-pub stored-rows : (ts : List Task) → usedRows (stored ts) ≡ map rowOf ts
-stored-rows ts = take-at (map rowOf ts) _ (length ts) (length-map ts rowOf)
+pub stored-rows : (ts : List Task) → usedRows (stored ts) ≡ rowsOf ts
+stored-rows ts = take-at (rowsOf ts) _ (length ts) (rows-length ts)
 
 -- stored tasks are found again
 pub tasks-stored : (ts : List Task) → tasksOf (stored ts) ≡ ts
@@ -42,7 +44,7 @@ tasks-stored ts = rw (stored-rows ts) (tasks-found ts _)
 -- ---- what is found, where there are times enough
 
 -- the rows are found again
-pub rows-found : (rows : List Row) (times : List ℕ) → partsIn rows ≤ length times → map rowOf (tasksFrom rows times) ≡ rows
+pub rows-found : (rows : List Row) (times : List ℕ) → partsIn rows ≤ length times → rowsOf (tasksFrom rows times) ≡ rows
 unfolding tasksFrom total
 rows-found [] times h = refl
 rows-found (r ∷ rows) times h =
@@ -51,7 +53,7 @@ rows-found (r ∷ rows) times h =
 
 -- and their times
 pub times-found : (rows : List Row) (times : List ℕ) → allTimes (tasksFrom rows times) ≡ take (partsIn rows) times
-unfolding tasksFrom total allTimes
+unfolding tasksFrom total each
 times-found [] times = refl
 times-found (r ∷ rows) times =
     rw (take-add (r .parts) (partsIn rows) times) (ap (_++_ (take (r .parts) times)) (times-found rows (drop (r .parts) times)))

@@ -1,4 +1,4 @@
--- Document 01, codes 4, 5 and 6: the row named is the first row that clashes with an earlier row.
+-- Document 01, codes 4, 5 and 6: the row ruleVerdict is the first row that clashes with an earlier row.
 use Prim.Native.Nat.{ℕ, zero, suc}
 use mathlib.Core.Bool.{Bool, _&&_, _||_}
 use mathlib.Core.List.{List, [], _∷_, _++_}
@@ -31,13 +31,13 @@ abbrev pub clash : {A : Type 0} → (A → A → Bool) → List A → ℕ
 clash f rows = clashAfter f [] rows
 
 -- the code of each rule, with the row
-abbrev pub named : Rule → ℕ → Verdict
-named R.SameId row = IdTwice row
-named R.SamePriority row = PriorityTwice row
-named R.KindsCrossed row = KindsCrossed row
+abbrev pub ruleVerdict : Rule → ℕ → Verdict
+ruleVerdict R.SameId row = IdTwice row
+ruleVerdict R.SamePriority row = PriorityTwice row
+ruleVerdict R.KindsCrossed row = KindsCrossed row
 
 unfoldable pub broken : Rule → List Row → Verdict
-broken rule rows = pick (ltb (clash (breaks rule) rows) (length rows)) (named rule (clash (breaks rule) rows)) Good
+broken rule rows = pick (ltb (clash (breaks rule) rows) (length rows)) (ruleVerdict rule (clash (breaks rule) rows)) Good
 
 -- 4 over the whole table, then 5, then 6
 unfoldable pub clashOf : List Row → Verdict

@@ -3,3 +3,4 @@ pub mod Fields
 pub mod Memory
 pub mod Clash
 pub mod Faults
+pub mod Written

@@ -1,8 +1,8 @@
 -- Document 01, "The table": how rows lie in memory.
 use Prim.Native.Nat.{ℕ}
-use mathlib.Core.List.{List, [], _∷_, _++_, map}
+use mathlib.Core.List.{List, [], _∷_, map}
 use lib.ListN.{length, take, drop}
-use Rattle.lists.specs.Lists.{padTo, total}
+use Rattle.lists.specs.Lists.{padTo, total, each}
 use Rattle.model.specs.Task.{Task}
 use Rattle.table.specs.declared.Row.{Row}
 use Rattle.table.specs.declared.Table.{Table}
@@ -32,17 +32,20 @@ taskOf r times =
       times = times;
     }
 
+-- the rows of tasks, in order
+abbrev pub rowsOf : List Task → List Row
+rowsOf ts = map rowOf ts
+
 -- the times of all rows stand one after another in row order
-unfoldable pub allTimes : List Task → List ℕ
-allTimes [] = []
-allTimes (t ∷ ts) = t .times ++ allTimes ts
+abbrev pub allTimes : List Task → List ℕ
+allTimes ts = each (λ t. t .times) ts
 
 abbrev pub zeroRow : Row
 zeroRow = record { id = 0; core = 0; kind = 0; priority = 0; period = 0; deadline = 0; parts = 0 }
 
 -- tasks in memory: unused rows and the rest of the 1,024 times are all zero
 abbrev pub stored : List Task → Table
-stored ts = record { count = length ts; rows = padTo zeroRow 64 (map rowOf ts); times = padTo 0 1024 (allTimes ts) }
+stored ts = record { count = length ts; rows = padTo zeroRow 64 (rowsOf ts); times = padTo 0 1024 (allTimes ts) }
 
 -- the rows that a table uses, and the times that these take
 abbrev pub usedRows : Table → List Row

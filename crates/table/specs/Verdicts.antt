@@ -1,6 +1,6 @@
 -- Document 01, "Codes and what they leave": the code of each verdict and the number carried.
 use Prim.Native.Nat.{ℕ}
-use mathlib.Core.Bool.{Bool}
+use mathlib.Core.Bool.{Bool, true, false}
 use lib.Dec.{eqb}
 use Rattle.lists.specs.Lists.{pick}
 use Rattle.table.specs.declared.Verdict.{Verdict}
@@ -36,6 +36,22 @@ numberOf (NoSuchCore n) = n
 numberOf (NoRoom n) = n
 numberOf (NoWindow n) = n
 numberOf (Missed n) = n
+
+-- the verdicts that reading a file gives
+abbrev pub reading : Verdict → Bool
+reading Good = true
+reading (EndsEarly n) = true
+reading (Malformed n) = true
+reading (OutOfRange n) = true
+reading (IdTwice n) = true
+reading (PriorityTwice n) = true
+reading (KindsCrossed n) = true
+reading (TooManyTimes n) = true
+reading (Trailing n) = true
+reading (NoSuchCore n) = false
+reading (NoRoom n) = false
+reading (NoWindow n) = false
+reading (Missed n) = false
 
 unfoldable pub good : Verdict → Bool
 good v = eqb (codeOf v) 0

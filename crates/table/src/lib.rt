@@ -5,7 +5,8 @@ ghost use lib.ListN.{length, drop, replicate};
 ghost use Rattle.table.specs.Verdicts.{codeOf, numberOf};
 ghost use Rattle.table.specs.Fields.{head, time, want, wanted, Ranges, leftAfter, judge, faultIn, fieldsOf, rowFrom};
 ghost use Rattle.table.specs.Memory.{stored, usedRows};
-ghost use Rattle.table.specs.Clash.{breaks, coopAbove, clash, broken, named, clashOf};
+ghost use Rattle.table.specs.Clash.{breaks, coopAbove, clash, broken, ruleVerdict, clashOf};
+ghost use Rattle.table.specs.Written.{noneWritten};
 ghost use Rattle.table.specs.Faults.{rowFault, rowsFault, faultOf};
 
 // One row of the table; its times stand apart.
@@ -41,6 +42,12 @@ pub enum Verdict {
     NoRoom(usize),
     NoWindow(usize),
     Missed(usize),
+}
+
+// The verdict on writing bytes into lent room, and how many were written.
+pub struct Written {
+    pub verdict: Verdict,
+    pub count: usize,
 }
 
 // The rules over two rows: codes 4, 5 and 6.
@@ -89,6 +96,16 @@ pub fn number_of(v: Verdict) -> usize
         | Verdict::NoRoom(n)
         | Verdict::NoWindow(n)
         | Verdict::Missed(n) => n,
+    }
+}
+
+// What refused writing answers: nothing was written.
+pub fn refused(v: Verdict) -> Written
+    ensures { λ r. ⌜ r ≡ noneWritten v ⌝ }
+{
+    Written {
+        verdict: v,
+        count: 0,
     }
 }
 
@@ -251,7 +268,7 @@ fn first_clash(t: Table, rule: Rule) -> usize
 
 // The code of a rule, with the row.
 fn verdict_on(rule: Rule, row: usize) -> Verdict
-    ensures { λ r. ⌜ r ≡ named rule row ⌝ }
+    ensures { λ r. ⌜ r ≡ ruleVerdict rule row ⌝ }
 {
     match rule {
         Rule::SameId => Verdict::IdTwice(row),

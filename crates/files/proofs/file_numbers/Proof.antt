@@ -1,140 +1,156 @@
--- `files::file_numbers` meets its contract. The invariant: the numbers so far and those of the other rows are the whole. Assumes nothing.
-use Prim.Native.Nat.{ℕ, _+_, _-_, _*_, _≤_, _<_}
+-- `files::file_numbers` meets its contract. The invariant: the numbers so far and those of the rows ahead are the whole. Assumes nothing.
+use Prim.Native.Nat.{ℕ, _+_, _-_, _*_, _≤_}
 use native.Mathlib.Omega.{arith}
 use borrow.Author.Needs.{needs}
 use mathlib.Core.Path.{_≡_, refl, sym, ap, _∙_}
-use mathlib.Core.List.{List, _∷_, _++_, append-assoc, append-nil}
-use lib.ListN.{length, getD, take, drop, set, length-set, length-append, drop-of-length-le}
-use lib.Seq.{length-sets, drop-drop, take-suc-set, length-take-le}
-use Rattle.lists.proofs.Parts.{part-is, part-length}
-use Rattle.lists.proofs.Stores.{take-sets}
+use mathlib.Core.List.{List, [], _∷_, _++_, append-assoc, append-nil}
+use lib.ListN.{length, getD, take, drop, set, length-set, length-append, length-drop}
+use lib.Seq.{sets, drop-set-lt, length-take-le}
+use Rattle.lists.specs.Lists.{each, over}
+use Rattle.lists.proofs.Overs.{over-none, over-length, over-one}
+use Rattle.lists.proofs.OverParts.{behind}
+use Rattle.model.specs.Task.{Task}
 use Rattle.table.specs.declared.Row.{Row}
 use Rattle.table.specs.declared.Table.{Table}
-use Rattle.table.specs.Verdicts.{codeOf, _orElse_}
+use Rattle.table.specs.Verdicts.{codeOf}
 use Rattle.table.specs.Fields.{fieldsOf}
-use Rattle.table.specs.Memory.{zeroRow, usedRows, tasksFrom, tasksOf}
-use Rattle.table.specs.Faults.{rowFault, rowsFault, faultOf}
-use Rattle.table.proofs.Codes.{first-good, then-good}
-use Rattle.table.proofs.GoodTasks.{count-few, no-fault, count-same}
-use Rattle.table.proofs.Heads.{GoodHead, head-found}
-use Rattle.table.proofs.Rows.{length-mapped, used-more, faults-more}
-use Rattle.files.specs.Writing.{rowsNumbers, fileNumbers}
-use Rattle.files.specs.Promises.{PutAt}
+use Rattle.table.specs.Memory.{zeroRow, allTimes, tasksOf}
+use Rattle.table.specs.Faults.{faultOf}
+use Rattle.table.proofs.Rows.{length-mapped}
+use Rattle.table.proofs.GoodTasks.{count-same}
+use Rattle.table.proofs.Ahead.{Ahead, lent, lent-length, Next, next, none-ahead, good-ahead}
+use Rattle.files.specs.Writing.{rowNumbers, fileNumbers}
+use Rattle.files.specs.Promises.{InOrder}
 use Rattle.files.proofs.file_numbers.Statement.{statement}
 use Rattle.files.proofs.file_numbers.Tie as tie
 
-record Listing (t : Table) (out : List ℕ) (p used i : ℕ) : Type 0 where
-  few : t .count ≤ 64
-  rows-long : t .count ≤ length (t .rows)
-  times-long : length (t .times) ≡ 1024
+-- seven numbers for each row, and its times
+rows-count : (ts : List Task) → length (each rowNumbers ts) ≡ 7 * length ts + length (allTimes ts)
+unfolding each rowNumbers
+rows-count [] = omega arith
+rows-count (t ∷ ts) =
+    omega (arith, length-append (t .times) (each rowNumbers ts), length-append (t .times) (allTimes ts), rows-count ts)
+
+record Listing (t : Table) (out₀ out : List ℕ) (p used i : ℕ) : Type 0 where
+  left : List Task
+  ahead : Ahead t used i left
+  new : List ℕ
+  whole : fileNumbers (tasksOf t) ≡ new ++ each rowNumbers left
+  short : length (fileNumbers (tasksOf t)) ≤ 1473
+  size : length out₀ ≡ 1473
+  place : p ≡ length new
+  put : out ≡ over new out₀
+
+module _ {t : Table} {out₀ out : List ℕ} {p used i : ℕ} (l : Listing t out₀ out p used i) where
+  -- there is room for what is ahead
+  room : p + length (each rowNumbers (l .left)) ≤ 1473
+  room = omega (arith, l .short, l .place, ap length (l .whole), length-append (l .new) (each rowNumbers (l .left)))
+
+  -- the length is still the same
   long : length out ≡ 1473
-  upto : i ≤ t .count
-  room : used ≤ 1024
-  place : p ≡ 1 + (7 * i + used)
-  fine : codeOf (rowsFault i used (drop i (usedRows t)) (drop used (t .times))) ≡ 0
-  same : fileNumbers (tasksOf t) ≡ take p out ++ rowsNumbers (tasksFrom (drop i (usedRows t)) (drop used (t .times)))
+  long = ap length (l .put) ∙ over-length (l .new) out₀ (omega (arith, room, l .place, l .size)) ∙ l .size
 
-module _ {t : Table} {out : List ℕ} {p used i : ℕ} (l : Listing t out p used i) where
-  module _ (h : i < t .count) where
-    row : Row
-    row = getD (t .rows) i zeroRow
+  -- after the last row
+  ends : t .count ≤ i → InOrder (fileNumbers (tasksOf t)) out₀ p out
+  unfolding each
+  ends h =
+      let all : fileNumbers (tasksOf t) ≡ l .new = l .whole ∙ rw (none-ahead (l .left) (l .ahead) h) (append-nil (l .new)) in
+      record { count = rw all (l .place); fits = omega (arith, room, l .size); front = rw all (l .put) }
 
-    own : List ℕ
-    own = take (used + row .parts - used) (drop used (t .times))
+  -- the next row
+  module _ (n : Next t used i (l .left)) where
+    -- its numbers, as the code has them
+    numbers : fieldsOf (getD (t .rows) i zeroRow) ++ lent t used i ≡ rowNumbers (n .task)
+    unfolding rowNumbers
+    numbers = ap (_++_ (fieldsOf (getD (t .rows) i zeroRow))) (n .own) ∙ rw (n .row)
 
-    next : drop i (usedRows t) ≡ row ∷ drop (i + 1) (usedRows t)
-    unfolding row
-    next = used-more (t .count) (t .rows) i h (l .rows-long)
+    -- how many they are
+    count : length (rowNumbers (n .task)) ≡ 7 + getD (t .rows) i zeroRow .parts
+    unfolding rowNumbers
+    count = omega (arith, ap (λ (r : Row). r .parts) (n .row))
 
-    -- the row's own faults, then the others'
-    faults : codeOf (rowFault i used row (drop used (t .times))
-        orElse rowsFault (i + 1) (used + row .parts) (drop (i + 1) (usedRows t)) (drop (used + row .parts) (t .times))) ≡ 0
-    faults = sym (ap codeOf (faults-more (usedRows t) row (t .times) i used next)) ∙ l .fine
+    -- then those of the others
+    more : each rowNumbers (l .left) ≡ rowNumbers (n .task) ++ each rowNumbers (n .others)
+    unfolding each
+    more = rw (n .first)
 
-    good-row : GoodHead used (getD (t .rows) i zeroRow)
-    unfolding rowFault row
-    good-row = head-found used i _ (first-good _ _ (first-good _ _ faults))
+    fits : p + (7 + getD (t .rows) i zeroRow .parts) ≤ 1473
+    fits = omega (arith, room, count, ap length more, length-append (rowNumbers (n .task)) (each rowNumbers (n .others)))
 
-    own-length : length own ≡ row .parts
-    unfolding own row
-    own-length = part-length used (row .parts) (t .times) (rw (l .times-long) (good-row .room))
-
-    numbers : List ℕ
-    numbers = fieldsOf row ++ own
-
-    count : length numbers ≡ 7 + row .parts
-    unfolding numbers
-    count = length-append (fieldsOf row) own ∙ ap (_+_ 7) own-length
-
-    fits : p + (7 + row .parts) ≤ length out
-    unfolding row
-    fits = omega (arith, l .long, l .place, l .few, good-row .room)
-
-    -- the numbers of the row, and those of the others
-    more : rowsNumbers (tasksFrom (drop i (usedRows t)) (drop used (t .times)))
-        ≡ numbers ++ rowsNumbers (tasksFrom (drop (i + 1) (usedRows t)) (drop (used + row .parts) (t .times)))
-    unfolding rowsNumbers tasksFrom numbers own row
-    more =
-        rw (next, drop-drop, ← part-is used (row .parts) (t .times), own-length)
-        (sym (append-assoc (fieldsOf row) own _))
-
-    turn : (r : ℕ) (out′ : List ℕ) → PutAt numbers p out r out′ → Listing t out′ r (used + row .parts) (i + 1)
-    unfolding row
-    turn r out′ put =
-        let room : p + length numbers ≤ length out = omega (arith, fits, count) in
+    turn : (part : List ℕ) → part ≡ sets (take (length out - p) (drop p out)) 0 (fieldsOf (getD (t .rows) i zeroRow) ++ lent t used i)
+        → Listing t out₀ (take p out ++ (part ++ drop (length out - p) (drop p out))) (p + 7 + getD (t .rows) i zeroRow .parts)
+        (used + getD (t .rows) i zeroRow .parts) (i + 1)
+    turn part e =
         record {
-          few = l .few;
-          rows-long = l .rows-long;
-          times-long = l .times-long;
-          long = ap length (put .stored) ∙ length-sets out p numbers ∙ l .long;
-          upto = omega arith;
-          room = good-row .room;
-          place = omega (arith, put .place, count, l .place);
-          fine = then-good _ _ faults;
-          same =
-              l .same ∙ rw (more, put .stored, put .place, take-sets out p numbers room)
-              (sym (append-assoc (take p out) numbers _));
+          left = n .others;
+          ahead = n .ahead;
+          new = l .new ++ rowNumbers (n .task);
+          whole = l .whole ∙ rw more (sym (append-assoc (l .new) (rowNumbers (n .task)) _));
+          short = l .short;
+          size = l .size;
+          place = rw length-append (omega (arith, l .place, count));
+          put = behind (l .new) out₀ (rowNumbers (n .task)) out p (l .put) (l .place) (omega (arith, fits, count, l .size)) part (rw numbers at e);
         }
 
-  ends : t .count ≤ i → (p ≤ 1473) × (take p out ≡ fileNumbers (tasksOf t))
-  unfolding rowsNumbers tasksFrom
-  ends h =
-      let past : length (usedRows t) ≤ i = rw (length-take-le (t .count) (t .rows) (l .rows-long)) h in (
-        omega (arith, l .place, l .few, l .upto, l .room),
-        sym (l .same ∙ rw (drop-of-length-le (usedRows t) past) (append-nil (take p out))),
-      )
+-- what is new in front of a list, or in front of one that begins so already
+first-same : (n : ℕ) (ns out : List ℕ) → over (n ∷ ns) (set out 0 n) ≡ over (n ∷ ns) out
+unfolding over
+first-same n ns out = rw (drop-set-lt (length (n ∷ ns)) out 0 n (omega arith))
 
 -- from the row count on
 starts : (t : Table) (out : List ℕ) → length (t .rows) ≡ 64 → length (t .times) ≡ 1024 → length out ≡ 1473 → codeOf (faultOf t) ≡ 0
-    → Listing t (set out 0 (t .count)) 1 0 0
-unfolding fileNumbers tasksOf
+    → Listing t (set out 0 (t .count)) (set out 0 (t .count)) 1 0 0
+unfolding fileNumbers
 starts t out rows times long fine =
-    let few = count-few t rows times fine in
-    let all : length (tasksFrom (usedRows t) (t .times)) ≡ t .count = count-same t rows times fine in
+    let a = good-ahead t rows times fine in
+    let all : length (tasksOf t) ≡ t .count = count-same t rows times fine in
     record {
-      few = few;
-      rows-long = omega arith;
-      times-long = times;
-      long = length-set out 0 (t .count) ∙ long;
-      upto = omega arith;
-      room = omega arith;
+      left = tasksOf t;
+      ahead = a;
+      new = t .count ∷ [];
+      whole = rw all;
+      short = omega (arith, rows-count (tasksOf t), a .few, a .room);
+      size = length-set out 0 (t .count) ∙ long;
       place = refl;
-      fine = first-good _ _ (no-fault t rows times fine);
-      same = rw (take-suc-set out 0 (t .count) (omega arith), all);
+      put = rw (over-none out) at (over-one [] out (t .count) (omega arith)) ∙ sym (first-same (t .count) [] out);
     }
 
+-- as if the row count had not been stored before the loop
+put-all : (t : Table) (out : List ℕ) → length (t .rows) ≡ 64 → length (t .times) ≡ 1024 → codeOf (faultOf t) ≡ 0 → (r : ℕ) (out′ : List ℕ)
+    → InOrder (fileNumbers (tasksOf t)) (set out 0 (t .count)) r out′ → InOrder (fileNumbers (tasksOf t)) out r out′
+unfolding fileNumbers
+put-all t out rows times fine r out′ o =
+    let all : length (tasksOf t) ≡ t .count = count-same t rows times fine in
+    record { count = o .count; fits = rw length-set at (o .fits); front = o .front ∙ rw all (first-same (t .count) _ out) }
+
 abbrev Inv-loop : tie.InvT-loop
-Inv-loop out₀ t n times p₀ used₀ i₀ out p used i = Listing t out p used i
+Inv-loop out₀ t n times p₀ used₀ i₀ out p used i = Listing t out₀ out p used i
 
 abbrev μ-loop : tie.MeasureT-loop
 μ-loop out₀ t n times p₀ used₀ i₀ out p used i = t .count - i
+
+-- the next row, where the code is at it
+here : (c : tie.In-loop Inv-loop μ-loop) → let l = c .before .loop in Next (c .before .before .before .before .args .t1) (l .used) (l .i) (l .inv .left)
+here c = next (c .before .loop .inv .left) (c .before .loop .inv .ahead) (c .loop-test .taken)
+
+-- its times lie within the table's
+within : (c : tie.In-loop Inv-loop μ-loop) → let t = c .before .before .before .before .args .t1 in let l = c .before .loop in
+    l .used + getD (t .rows) (l .i) zeroRow .parts ≤ length (t .times)
+within c =
+    let long : length (c .before .before .before .before .args .t1 .times) ≡ 1024 = search needs in
+    omega (arith, here c .room)
+
+-- its numbers have room
+room-here : (c : tie.In-loop Inv-loop μ-loop) → let t = c .before .before .before .before .args .t1 in let l = c .before .loop in
+    (l .p + (7 + getD (t .rows) (l .i) zeroRow .parts) ≤ 1473) × (length (l .out) ≡ 1473)
+room-here c = (fits (c .before .loop .inv) (here c), long (c .before .loop .inv))
 
 cast-out : tie.Need-cast-out Inv-loop μ-loop
 cast-out c =
     let t = c .before .before .args .t1 in
     let rows : length (t .rows) ≡ 64 = search (needs, length-mapped) in
     let times : length (t .times) ≡ 1024 = search needs in
-    omega (arith, count-few t rows times (c .before .before .pre .0))
+    omega (arith, good-ahead t rows times (c .before .before .pre .0) .few)
 
 slice-write-out : tie.Need-slice-write-out Inv-loop μ-loop
 slice-write-out c = omega (arith, c .before .before .pre .1)
@@ -147,41 +163,57 @@ loop-holds c =
     starts t (c .before .before .args .out .now) rows times (c .before .before .pre .1) (c .before .before .pre .0)
 
 mul-row : tie.Need-mul-row Inv-loop μ-loop
-mul-row c = omega (arith, c .before .loop .inv .few)
+mul-row c = omega (arith, c .before .loop .inv .ahead .few)
 
 element-copy-out-row : tie.Need-element-copy-out-row Inv-loop μ-loop
-element-copy-out-row c = omega (arith, c .before .loop .inv .few)
+element-copy-out-row c = omega (arith, c .before .loop .inv .ahead .few)
 
 cast-end : tie.Need-cast-end Inv-loop μ-loop
 cast-end c = search needs
 
 add-end : tie.Need-add-end Inv-loop μ-loop
-add-end c = omega (arith, good-row (c .before .before .before .loop .inv) (c .before .before .loop-test .taken) .room)
+add-end c = omega (arith, within (c .before .before))
 
 mul-put-row : tie.Need-mul-put-row Inv-loop μ-loop
-mul-put-row c = omega (arith, good-row (c .before .before .before .loop .inv) (c .before .before .loop-test .taken) .room)
+mul-put-row c = omega (arith, within (c .before .before))
 
 sub-put-row : tie.Need-sub-put-row Inv-loop μ-loop
-sub-put-row c = omega (arith, good-row (c .before .before .before .loop .inv) (c .before .before .loop-test .taken) .room)
+sub-put-row c = omega (arith, within (c .before .before))
 
 part-put-row-start : tie.Need-part-put-row-start Inv-loop μ-loop
-part-put-row-start c =
-    let c3 = c .before .before .before in
-    let c4 = c3 .before in
-    omega (arith, good-row (c4 .loop .inv) (c3 .loop-test .taken) .room, c4 .loop .inv .times-long)
+part-put-row-start c = omega (arith, within (c .before .before .before))
 
 part-put-row-end : tie.Need-part-put-row-end Inv-loop μ-loop
-part-put-row-end c =
-    let c3 = c .before .before .before in
-    let c4 = c3 .before in
-    omega (arith, good-row (c4 .loop .inv) (c3 .loop-test .taken) .room, c4 .loop .inv .times-long)
+part-put-row-end c = omega (arith, within (c .before .before .before))
+
+mul-put-row-2 : tie.Need-mul-put-row-2 Inv-loop μ-loop
+mul-put-row-2 c = omega (arith, room-here (c .before .before .before .before) .0, room-here (c .before .before .before .before) .1)
+
+sub-put-row-2 : tie.Need-sub-put-row-2 Inv-loop μ-loop
+sub-put-row-2 c = omega (arith, room-here (c .before .before .before .before) .0, room-here (c .before .before .before .before) .1)
+
+part-put-row-start-2 : tie.Need-part-put-row-start-2 Inv-loop μ-loop
+part-put-row-start-2 c = omega (arith, room-here (c .before .before .before .before) .0, room-here (c .before .before .before .before) .1)
+
+part-put-row-end-2 : tie.Need-part-put-row-end-2 Inv-loop μ-loop
+part-put-row-end-2 c = omega (arith, room-here (c .before .before .before .before) .0, room-here (c .before .before .before .before) .1)
 
 put-row-requires : tie.Need-put-row-requires Inv-loop μ-loop
-unfolding own row
 put-row-requires c κs =
     let c5 = c .before .before .before .before .before in
-    let c6 = c5 .before in
-    rw (own-length (c6 .loop .inv) (c5 .loop-test .taken)) (fits (c6 .loop .inv) (c5 .loop-test .taken))
+    let l = c5 .before .loop in
+    let rest : length (drop (l .p) (l .out)) ≡ length (l .out) - l .p = length-drop (l .p) (l .out) in
+    rw (lent-length (here c5), length-take-le (length (l .out) - l .p) (drop (l .p) (l .out)) (omega arith))
+    (omega (arith, room-here c5 .0, room-here c5 .1))
+
+add-p : tie.Need-add-p Inv-loop μ-loop
+add-p c = omega (arith, room-here (c .before .before .before .before .before .before .before .before) .0, room-here (c .before .before .before .before .before .before .before .before) .1)
+
+cast-p : tie.Need-cast-p Inv-loop μ-loop
+cast-p c = search needs
+
+add-p-2 : tie.Need-add-p-2 Inv-loop μ-loop
+add-p-2 c = omega (arith, room-here (c .before .before .before .before .before .before .before .before .before) .0, room-here (c .before .before .before .before .before .before .before .before .before) .1)
 
 add-i : tie.Need-add-i Inv-loop μ-loop
 add-i c = search needs
@@ -190,18 +222,21 @@ loop-less : tie.Need-loop-less Inv-loop μ-loop
 loop-less c = search needs
 
 loop-again : tie.Need-loop-again Inv-loop μ-loop
-unfolding numbers own row
 loop-again c =
-    let c2 = c .before .before in
-    let c8 = c2 .before .before .before .before .before .before in
-    let c9 = c8 .before in
-    turn (c9 .loop .inv) (c8 .loop-test .taken) _ _ (c2 .put-row .ensures)
+    let c3 = c .before .before .before in
+    let c9 = c3 .before .before .before .before .before .before in
+    turn (c9 .before .loop .inv) (here c9) _ (c3 .put-row .ensures)
 
 same-length : tie.Need-same-length Inv-loop μ-loop
-same-length c = omega (arith, c .before .loop .inv .long, c .before .before .before .before .pre .1)
+same-length c = long (c .before .loop .inv) ∙ sym (c .before .before .before .before .pre .1)
 
 returns : tie.Need-returns Inv-loop μ-loop
-returns c = ends (c .before .loop .inv) (c .loop-test .left)
+returns c =
+    let t = c .before .before .before .before .args .t1 in
+    let rows : length (t .rows) ≡ 64 = search (needs, length-mapped) in
+    let times : length (t .times) ≡ 1024 = search needs in
+    put-all t (c .before .before .before .before .args .out .now) rows times (c .before .before .before .before .pre .0) _ _
+    (ends (c .before .loop .inv) (c .loop-test .left))
 
 pub file-numbers-spec : {M : Type 1} → statement M
 file-numbers-spec =
@@ -220,7 +255,14 @@ file-numbers-spec =
     sub-put-row
     part-put-row-start
     part-put-row-end
+    mul-put-row-2
+    sub-put-row-2
+    part-put-row-start-2
+    part-put-row-end-2
     put-row-requires
+    add-p
+    cast-p
+    add-p-2
     add-i
     loop-less
     loop-again

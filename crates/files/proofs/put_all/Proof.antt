@@ -1,59 +1,58 @@
--- `files::put_all` meets its contract. The invariant: what is still to be written, put where it goes, is the whole. Assumes nothing.
+-- `files::put_all` meets its contract. The invariant: the bytes of the first numbers are in front. Assumes nothing.
 use Prim.Native.Nat.{ℕ, _+_, _-_, _≤_, _<_}
 use native.Mathlib.Omega.{arith}
 use borrow.Author.Needs.{needs}
 use mathlib.Core.Path.{_≡_, refl, sym, ap, _∙_}
 use mathlib.Core.List.{List, _++_}
 use lib.ListN.{length, getD, take, drop, length-append}
-use lib.Seq.{sets, length-sets}
-use Rattle.lists.proofs.Stores.{sets-append, sets-from}
+use lib.Seq.{take-all}
+use Rattle.lists.specs.Lists.{each, over}
+use Rattle.lists.proofs.EachPart.{each-through, each-within}
+use Rattle.lists.proofs.Overs.{over-none, over-length}
+use Rattle.lists.proofs.OverParts.{behind}
 use Rattle.numbers.specs.Numbers.{encode, encodeAll, Put}
-use Rattle.numbers.proofs.Laws.{encode-all-more, encode-all-none}
 use Rattle.files.proofs.put_all.Statement.{statement}
 use Rattle.files.proofs.put_all.Tie as tie
 
 record Putting (out₀ ns out : List ℕ) (p i : ℕ) : Type 0 where
   fits : length (encodeAll ns) ≤ length out₀
   upto : i ≤ length ns
-  long : length out ≡ length out₀
-  left : length (encodeAll ns) ≡ p + length (encodeAll (drop i ns))
-  same : sets out₀ 0 (encodeAll ns) ≡ sets out p (encodeAll (drop i ns))
+  place : p ≡ length (encodeAll (take i ns))
+  put : out ≡ over (encodeAll (take i ns)) out₀
 
 module _ {out₀ ns out : List ℕ} {p i : ℕ} (k : Putting out₀ ns out p i) where
+  -- the bytes so far have room
+  within : p ≤ length out₀
+  within = omega (arith, k .fits, k .place, each-within encode ns i)
+
+  -- the length stays
+  long : length out ≡ length out₀
+  long = ap length (k .put) ∙ over-length (encodeAll (take i ns)) out₀ (omega (arith, within, k .place))
+
   module _ (h : i < length ns) (r : ℕ) (part : List ℕ) (put : Put (getD ns i 0) (take (length out - p) (drop p out)) r part) where
-    bytes : List ℕ
-    bytes = encode (getD ns i 0)
+    -- with one number more
+    more : encodeAll (take (i + 1) ns) ≡ encodeAll (take i ns) ++ encode (getD ns i 0)
+    more = each-through encode ns i 0 h
 
-    cut : length (encodeAll (drop i ns)) ≡ r + length (encodeAll (drop (i + 1) ns))
-    unfolding bytes
-    cut = ap length (encode-all-more ns i h) ∙ length-append bytes (encodeAll (drop (i + 1) ns)) ∙ rw (put .size)
+    -- where it ends
+    next : p + r ≡ length (encodeAll (take (i + 1) ns))
+    next = rw (more, length-append) (omega (arith, k .place, put .size))
 
-    fits-here : p + r ≤ length out
-    fits-here = omega (arith, k .fits, k .long, k .left, cut)
+    fits-here : p + r ≤ length out₀
+    fits-here = omega (arith, next, k .fits, each-within encode ns (i + 1))
 
-    after : List ℕ
-    after = take p out ++ (part ++ drop (length out - p) (drop p out))
-
-    out-is : after ≡ sets out p bytes
-    unfolding bytes after
-    out-is =
-        ap (λ (l : List ℕ). take p out ++ (l ++ drop (length out - p) (drop p out))) (put .bytes)
-        ∙ sets-from out p bytes (omega (arith, fits-here, put .size))
-
-    turn : Putting out₀ ns after (p + r) (i + 1)
-    unfolding bytes
+    turn : Putting out₀ ns (take p out ++ (part ++ drop (length out - p) (drop p out))) (p + r) (i + 1)
     turn = record {
       fits = k .fits;
       upto = omega arith;
-      long = ap length out-is ∙ length-sets out p bytes ∙ k .long;
-      left = omega (arith, k .left, cut);
-      same =
-          k .same ∙ ap (sets out p) (encode-all-more ns i h) ∙ sets-append out p bytes (encodeAll (drop (i + 1) ns))
-          ∙ rw (out-is, put .size);
+      place = next;
+      put =
+          behind (encodeAll (take i ns)) out₀ (encode (getD ns i 0)) out p (k .put) (k .place) (omega (arith, fits-here, put .size)) part (put .bytes)
+          ∙ rw more;
     }
 
-  ends : length ns ≤ i → out ≡ sets out₀ 0 (encodeAll ns)
-  ends h = sym (k .same ∙ ap (sets out p) (encode-all-none ns i h))
+  ends : length ns ≤ i → out ≡ over (encodeAll ns) out₀
+  ends h = k .put ∙ rw (take-all i ns h)
 
 abbrev Inv-loop : tie.InvT-loop
 Inv-loop out₀ numbers p₀ i₀ out p i = Putting out₀ numbers out p i
@@ -62,16 +61,17 @@ abbrev μ-loop : tie.MeasureT-loop
 μ-loop out₀ numbers p₀ i₀ out p i = length numbers - i
 
 loop-holds : tie.Need-loop-holds Inv-loop μ-loop
-loop-holds c = record { fits = c .before .before .pre; upto = search needs; long = refl; left = omega arith; same = refl }
+loop-holds c =
+    record { fits = c .before .before .pre; upto = search needs; place = unfold each in refl; put = unfold each in sym (over-none _) }
 
 sub-put-number : tie.Need-sub-put-number Inv-loop μ-loop
-sub-put-number c = omega (arith, c .before .loop .inv .fits, c .before .loop .inv .left, c .before .loop .inv .long)
+sub-put-number c = omega (arith, within (c .before .loop .inv), long (c .before .loop .inv))
 
 part-put-number-start : tie.Need-part-put-number-start Inv-loop μ-loop
-part-put-number-start c = omega (arith, c .before .loop .inv .fits, c .before .loop .inv .left, c .before .loop .inv .long)
+part-put-number-start c = omega (arith, within (c .before .loop .inv), long (c .before .loop .inv))
 
 part-put-number-end : tie.Need-part-put-number-end Inv-loop μ-loop
-part-put-number-end c = omega (arith, c .before .loop .inv .fits, c .before .loop .inv .left, c .before .loop .inv .long)
+part-put-number-end c = omega (arith, within (c .before .loop .inv), long (c .before .loop .inv))
 
 mul-put-number : tie.Need-mul-put-number Inv-loop μ-loop
 mul-put-number c = search needs
@@ -87,7 +87,7 @@ add-p c =
     let c2 = c .before .before in
     let c5 = c2 .before .before .before in
     let c6 = c5 .before in
-    omega (arith, fits-here (c6 .loop .inv) (c5 .loop-test .taken) _ _ (c2 .put-number .ensures), c6 .loop .inv .long)
+    omega (arith, fits-here (c6 .loop .inv) (c5 .loop-test .taken) _ _ (c2 .put-number .ensures), long (c6 .loop .inv))
 
 add-i : tie.Need-add-i Inv-loop μ-loop
 add-i c = search needs
@@ -96,7 +96,6 @@ loop-less : tie.Need-loop-less Inv-loop μ-loop
 loop-less c = search needs
 
 loop-again : tie.Need-loop-again Inv-loop μ-loop
-unfolding after
 loop-again c =
     let c2 = c .before .before in
     let c5 = c2 .before .before .before in
@@ -104,7 +103,7 @@ loop-again c =
     turn (c6 .loop .inv) (c5 .loop-test .taken) _ _ (c2 .put-number .ensures)
 
 same-length : tie.Need-same-length Inv-loop μ-loop
-same-length c = c .before .loop .inv .long
+same-length c = long (c .before .loop .inv)
 
 returns : tie.Need-returns Inv-loop μ-loop
 returns c = ends (c .before .loop .inv) (c .loop-test .left)

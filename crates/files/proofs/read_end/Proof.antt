@@ -3,14 +3,14 @@ use Prim.Native.Nat.{ℕ, _≤_, _<_}
 use borrow.Author.Needs.{needs}
 use borrow.Author.Tests.{lt-ltb, le-ltb}
 use mathlib.Core.Path.{_≡_, ap, _∙_}
-use mathlib.Core.List.{List, map}
+use mathlib.Core.List.{List}
 use lib.ListN.{length}
 use Rattle.model.specs.Task.{Task}
 use Rattle.table.specs.declared.Table.{Table}
 use Rattle.table.specs.declared.Verdict.{Verdict}
 use Rattle.table.specs.declared.Verdict.the-variants.{Good, Trailing}
 use Rattle.table.specs.Verdicts.{codeOf}
-use Rattle.table.specs.Memory.{rowOf, usedRows, stored}
+use Rattle.table.specs.Memory.{usedRows, stored, rowsOf}
 use Rattle.table.specs.Clash.{clashOf}
 use Rattle.table.proofs.Stored.{stored-rows}
 use Rattle.files.specs.Reading.{stop, endAt, loaded}
@@ -24,7 +24,7 @@ module _ (s : List ℕ) (at : ℕ) (t : Table) (ts : List Task) (lies : t ≡ st
   past h = rw (lt-ltb at (length s) h)
 
   module _ (v : Verdict) (k : ℕ) (said : v ≡ clashOf (usedRows t)) (code : k ≡ codeOf v) (all : length s ≤ at) where
-    on-tasks : v ≡ clashOf (map rowOf ts)
+    on-tasks : v ≡ clashOf (rowsOf ts)
     on-tasks = said ∙ ap (λ (u : Table). clashOf (usedRows u)) lies ∙ ap clashOf (stored-rows ts)
 
     clashes : (k ≡ 0 → ⊥) → loaded (stop v) ≡ loaded (endAt s ts at)

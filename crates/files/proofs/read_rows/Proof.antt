@@ -5,19 +5,19 @@ use native.Mathlib.Nat.{sub-zero}
 use native.Mathlib.Omega.{arith}
 use borrow.Author.Needs.{needs}
 use mathlib.Core.Path.{_≡_, refl, sym, ap, _∙_}
-use mathlib.Core.List.{List, [], _∷_, _++_, map, map-append}
-use lib.ListN.{length, take, drop, set, replicate, length-map, length-append, length-replicate}
-use Rattle.lists.specs.Lists.{padTo}
-use Rattle.lists.proofs.Pads.{set-pad, splice-pad}
+use mathlib.Core.List.{List, [], _∷_, _++_}
+use lib.ListN.{length, take, drop, set, replicate, length-replicate}
+use Rattle.lists.specs.Lists.{each}
 use Rattle.lists.proofs.Parts.{part-length}
 use Rattle.model.specs.Task.{Task}
 use Rattle.table.specs.declared.Row.{Row}
+use Rattle.table.specs.declared.Table.{Table}
 use Rattle.table.specs.declared.Verdict.{Verdict}
 use Rattle.table.specs.Fields.{head, time}
-use Rattle.table.specs.Memory.{rowOf, taskOf, allTimes, zeroRow}
+use Rattle.table.specs.Memory.{taskOf, allTimes}
+use Rattle.table.proofs.Laid.{Laid, laid-stored, times-long, laid-part}
 use Rattle.table.proofs.Heads.{GoodHead}
 use Rattle.table.proofs.Seven.{all-length}
-use Rattle.table.proofs.Stored.{all-times-snoc}
 use Rattle.files.specs.declared.Next.the-variants.{At}
 use Rattle.files.specs.Reading.{Step, stop, go, fieldsAt, rowAt, rowsAt}
 use Rattle.files.specs.Promises.{asBody}
@@ -29,30 +29,25 @@ use Rattle.files.proofs.read_rows.Tie as tie
 
 record Loading (s : List ℕ) (at n : ℕ) (rows : List Row) (times : List ℕ) (p used i : ℕ) : Type 0 where
   done : List Task
+  laid : Laid done rows times i used
   upto : i ≤ n
-  count : i ≡ length done
-  total : used ≡ length (allTimes done)
   room : used ≤ 1024
-  rows-are : rows ≡ padTo zeroRow 64 (map rowOf done)
-  times-are : times ≡ padTo 0 1024 (allTimes done)
   same : rowsAt n [] s at ≡ rowsAt (n - i) done s p
 
 module _ {s : List ℕ} {at n : ℕ} {rows : List Row} {times : List ℕ} {p used i : ℕ} (l : Loading s at n rows times p used i) where
-  times-long : length times ≡ 1024
-  times-long = rw (l .times-are, length-append, length-replicate) (omega (arith, l .total, l .room))
-
   ends : n ≤ i → record { next = At p; table = record { count = n; rows = rows; times = times } } ≡ asBody (rowsAt n [] s at)
   ends h =
-      let all : n ≡ length (l .done) = omega (arith, l .upto, l .count) in
+      let last : n ≡ i = omega (arith, l .upto) in
       let none : n - i ≡ 0 = omega arith in
       let read : rowsAt n [] s at ≡ go (l .done) p = l .same ∙ rw (none, rows-none) in
-      (λ k. record { next = At p; table = record { count = all k; rows = l .rows-are k; times = l .times-are k } })
+      ap (λ (k : ℕ). record { next = At p; table = record { count = k; rows = rows; times = times } }) last
+      ∙ ap (λ (t : Table). record { next = At p; table = t }) (laid-stored (l .laid))
       ∙ sym (ap asBody read)
 
   module _ (few : n ≤ 64) (some : i < n) where
     -- the row that is read now, after those that are done
     here : {x : Step Task} → rowAt used s p ≡ x → rowAt (length (allTimes (l .done))) s p ≡ x
-    here e = rw (l .total) at e
+    here e = rw (l .laid .total) at e
 
     stops : (v : Verdict) → rowAt used s p ≡ stop v → asBody (stop v) ≡ asBody (rowsAt n [] s at)
     stops v e = sym (ap asBody (l .same ∙ rows-stop (n - i) (l .done) s p (omega arith) v (here e)))
@@ -66,41 +61,28 @@ module _ {s : List ℕ} {at n : ℕ} {rows : List Row} {times : List ℕ} {p use
 
       -- the part of the times that is lent has a place for each
       slot : length (take (used + row .parts - used) (drop used times)) ≡ row .parts
-      slot = part-length used (row .parts) times (rw times-long (good-row .room))
+      slot = part-length used (row .parts) times (rw (times-long (l .laid) (l .room)) (good-row .room))
 
       times-stops : (v : Verdict) → fieldsAt (replicate (row .parts) time) [] s q ≡ stop v → asBody (stop v) ≡ asBody (rowsAt n [] s at)
       times-stops v e = stops v (row-times-stop used s p g v e)
 
       module _ (ts : List ℕ) (m : ℕ) (read : fieldsAt (replicate (row .parts) time) [] s q ≡ go ts m) where
+        -- as many times as the row has parts
         full : length ts ≡ row .parts
         full = all-length _ ts (taken-all (replicate (row .parts) time) s q ts m read .fine) ∙ length-replicate (row .parts) time
 
-        rows-turn : set rows i row ≡ padTo zeroRow 64 (map rowOf (l .done ++ (taskOf row ts ∷ [])))
-        rows-turn =
-            let at-end : i ≡ length (map rowOf (l .done)) = l .count ∙ sym (length-map (l .done) rowOf) in
-            let next = set-pad zeroRow 64 (map rowOf (l .done)) row (omega arith) in
-            rw (l .rows-are, at-end, next, map-append rowOf (l .done) (taskOf row ts ∷ []), full)
-
-        times-turn : take used times ++ (ts ++ drop (used + row .parts - used) (drop used times))
-            ≡ padTo 0 1024 (allTimes (l .done ++ (taskOf row ts ∷ [])))
-        times-turn =
-            let lent : used + row .parts - used ≡ length ts = omega (arith, full) in
-            rw (lent, l .times-are, l .total, splice-pad 0 1024 (allTimes (l .done)) ts, all-times-snoc)
-
         turn : Loading s at n (set rows i row) (take used times ++ (ts ++ drop (used + row .parts - used) (drop used times))) m
             (used + row .parts) (i + 1)
-        turn = record {
-          done = l .done ++ (taskOf row ts ∷ []);
-          upto = omega arith;
-          count = rw length-append (omega (arith, l .count));
-          total = rw (all-times-snoc, length-append) (omega (arith, l .total, full));
-          room = good-row .room;
-          rows-are = rows-turn;
-          times-are = times-turn;
-          same =
-              let left : n - i - 1 ≡ n - (i + 1) = omega arith in
-              l .same ∙ rows-more (n - i) (l .done) s p (omega arith) (taskOf row ts) m (here (row-more used s p g ts m read)) ∙ rw left;
-        }
+        turn =
+            let left : n - i - 1 ≡ n - (i + 1) = omega arith in
+            let read-on = rows-more (n - i) (l .done) s p (omega arith) (taskOf row ts) m (here (row-more used s p g ts m read)) in
+            record {
+              done = l .done ++ (taskOf row ts ∷ []);
+              laid = laid-part (l .laid) (taskOf row ts) row ts (rw full) refl (omega arith) (good-row .room);
+              upto = omega arith;
+              room = good-row .room;
+              same = l .same ∙ read-on ∙ rw left;
+            }
 
 abbrev Inv-loop : tie.InvT-loop
 Inv-loop bytes at n rows₀ times₀ p₀ used₀ i₀ rows times p used i = Loading bytes at n rows times p used i
@@ -135,17 +117,13 @@ row-of-requires : tie.Need-row-of-requires Inv-loop μ-loop
 row-of-requires c κs = search needs
 
 loop-holds : tie.Need-loop-holds Inv-loop μ-loop
-unfolding allTimes
+unfolding each
 loop-holds c =
     record {
       done = [];
+      laid = record { number = refl; total = refl; rows-are = rw (c .row-of .ensures); times-are = refl };
       upto = search needs;
-      count = refl;
-      total = refl;
       room = search needs;
-      rows-are = rw
-          (c .row-of .ensures);
-      times-are = refl;
       same = rw sub-zero;
     }
 
@@ -192,7 +170,12 @@ part-times-start c = omega (arith, row-of-head (c .before .before) .room)
 
 part-times-end : tie.Need-part-times-end Inv-loop μ-loop
 part-times-end c =
-    omega (arith, row-of-head (c .before .before) .room, times-long (c .before .before .before .before .before .before .loop .inv))
+    let c6 = c .before .before .before .before .before .before in
+    omega (
+      arith,
+      row-of-head (c .before .before) .room,
+      times-long (c6 .loop .inv .laid) (c6 .loop .inv .room),
+    )
 
 read-times-requires : tie.Need-read-times-requires Inv-loop μ-loop
 read-times-requires c κs = rw (slot-of (c .before .before .before)) (row-of-head (c .before .before .before) .parts .most)

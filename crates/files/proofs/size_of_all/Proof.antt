@@ -1,32 +1,34 @@
--- `files::size_of_all` meets its contract. The invariant: the size so far and that of the rest are the whole. Assumes nothing.
+-- `files::size_of_all` meets its contract. The invariant: the size of the first numbers. Assumes nothing.
 use Prim.Native.Nat.{ℕ, _+_, _-_, _*_, _≤_, _<_}
 use native.Mathlib.Omega.{arith}
 use borrow.Author.Needs.{needs}
-use mathlib.Core.Path.{_≡_, ap, _∙_}
+use mathlib.Core.Path.{_≡_, refl, _∙_}
 use mathlib.Core.List.{List}
-use lib.ListN.{length, getD, drop, length-append}
+use lib.ListN.{length, getD, take, length-append}
+use lib.Seq.{take-all}
+use Rattle.lists.specs.Lists.{each}
+use Rattle.lists.proofs.EachPart.{each-through}
 use Rattle.numbers.specs.Numbers.{encode, encodeAll}
-use Rattle.numbers.proofs.Laws.{encode-few, encode-all-more, encode-all-none}
+use Rattle.numbers.proofs.Laws.{encode-few}
 use Rattle.files.proofs.size_of_all.Statement.{statement}
 use Rattle.files.proofs.size_of_all.Tie as tie
 
 record Summing (ns : List ℕ) (size i : ℕ) : Type 0 where
   upto : i ≤ length ns
   few : size ≤ 5 * i
-  same : length (encodeAll ns) ≡ size + length (encodeAll (drop i ns))
+  same : size ≡ length (encodeAll (take i ns))
 
 module _ {ns : List ℕ} {size i : ℕ} (k : Summing ns size i) where
   turn : i < length ns → (n : ℕ) → n ≡ length (encode (getD ns i 0)) → Summing ns (size + n) (i + 1)
   turn h n e =
-      let cut = ap length (encode-all-more ns i h) ∙ length-append (encode (getD ns i 0)) (encodeAll (drop (i + 1) ns)) in
       record {
         upto = omega arith;
         few = omega (arith, k .few, encode-few (getD ns i 0));
-        same = omega (arith, k .same, cut);
+        same = rw (each-through encode ns i 0 h, length-append) (omega (arith, k .same));
       }
 
   ends : length ns ≤ i → size ≡ length (encodeAll ns)
-  ends h = omega (arith, k .same, ap length (encode-all-none ns i h))
+  ends h = k .same ∙ rw (take-all i ns h)
 
 abbrev Inv-loop : tie.InvT-loop
 Inv-loop numbers size₀ i₀ size i = Summing numbers size i
@@ -35,7 +37,7 @@ abbrev μ-loop : tie.MeasureT-loop
 μ-loop numbers size₀ i₀ size i = length numbers - i
 
 loop-holds : tie.Need-loop-holds Inv-loop μ-loop
-loop-holds c = record { upto = search needs; few = search needs; same = omega arith }
+loop-holds c = record { upto = search needs; few = search needs; same = unfold each in refl }
 
 mul-size-of : tie.Need-mul-size-of Inv-loop μ-loop
 mul-size-of c = omega arith

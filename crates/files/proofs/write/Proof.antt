@@ -1,59 +1,30 @@
--- `files::write` meets its contract: each return is one case of `writeVerdict`. Assumes nothing.
-use Prim.Native.Nat.{ℕ, _+_, _≤_, _<_}
-use native.Mathlib.Nat.{zero-add}
+-- `files::write` meets its contract: a fault, no room, or all the bytes. Assumes nothing.
+use Prim.Native.Nat.{ℕ}
 use native.Mathlib.Omega.{arith}
 use borrow.Author.Needs.{needs}
-use borrow.Author.Tests.{lt-ltb, le-ltb}
 use mathlib.Core.Path.{_≡_, refl, sym, ap, _∙_}
-use mathlib.Core.Bool.{false}
 use mathlib.Core.List.{List}
-use lib.ListN.{length, length-take}
-use lib.Seq.{sets, sets-eq, length-take-le}
+use lib.ListN.{length, take, length-take}
+use lib.Seq.{length-take-le}
+use Rattle.lists.proofs.Overs.{take-over}
 use Rattle.numbers.specs.Numbers.{encodeAll}
 use Rattle.table.specs.declared.Table.{Table}
-use Rattle.table.specs.declared.Verdict.{Verdict}
-use Rattle.table.specs.declared.Verdict.the-variants.{Good, NoRoom}
-use Rattle.table.specs.Verdicts.{codeOf, good}
+use Rattle.table.specs.Verdicts.{codeOf}
 use Rattle.table.specs.Memory.{tasksOf}
 use Rattle.table.specs.Faults.{faultOf}
-use Rattle.table.proofs.Codes.{is-fault, or-good, fault-stays}
-use Rattle.files.specs.Writing.{fileNumbers, encodeFile, fileOf, writeVerdict, writeAnswer, bytesAfter, Wrote}
+use Rattle.table.proofs.Writes.{refuses-fault, refuses-room, writes-all}
+use Rattle.files.specs.Writing.{fileNumbers, encodeFile, fileOf}
+use Rattle.files.specs.Promises.{InOrder}
 use Rattle.files.proofs.write.Statement.{statement}
 use Rattle.files.proofs.write.Tie as tie
 
-module _ (t : Table) (out : List ℕ) where
-  -- a refusal: nothing is written
-  refused : (v : Verdict) → writeVerdict t (length out) ≡ v → good v ≡ false → Wrote t out (record { verdict = v; count = 0 }) out
-  unfolding writeAnswer bytesAfter
-  refused v e f = record { answer = rw (e, f); bytes = rw (e, f) }
+-- the bytes of the numbers in front are the file
+file-is : (t : Table) (room : List ℕ) (n : ℕ) (numbers : List ℕ) → InOrder (fileNumbers (tasksOf t)) room n numbers
+    → encodeAll (take n numbers) ≡ fileOf t
+unfolding fileOf encodeFile
+file-is t room n numbers o = ap encodeAll (rw (o .count, o .front) (take-over (fileNumbers (tasksOf t)) room))
 
-  faulty : (v : Verdict) (k : ℕ) → v ≡ faultOf t → k ≡ codeOf v → (k ≡ 0 → ⊥) → Wrote t out (record { verdict = v; count = 0 }) out
-  unfolding writeVerdict
-  faulty v k same code h = refused v (sym (fault-stays same code _ h)) (is-fault v (λ e. h (code ∙ e)))
-
-  module _ (fine : codeOf (faultOf t) ≡ 0) (numbers : List ℕ) (own : numbers ≡ fileNumbers (tasksOf t)) (size : ℕ)
-      (sized : size ≡ length (encodeAll numbers)) where
-    file-is : encodeAll numbers ≡ fileOf t
-    unfolding fileOf encodeFile
-    file-is = ap encodeAll own
-
-    size-is : length (fileOf t) ≡ size
-    size-is = sym (sized ∙ ap length file-is)
-
-    short : length out < size → Wrote t out (record { verdict = NoRoom size; count = 0 }) out
-    unfolding writeVerdict good
-    short h = refused (NoRoom size) (or-good (faultOf t) _ fine ∙ rw (size-is, lt-ltb (length out) size h)) refl
-
-    done : size ≤ length out → (out′ : List ℕ) → out′ ≡ sets out 0 (encodeAll numbers) → Wrote t out (record { verdict = Good; count = size }) out′
-    unfolding writeAnswer bytesAfter writeVerdict good
-    done h out′ e =
-        let said : writeVerdict t (length out) ≡ Good = or-good (faultOf t) _ fine ∙ rw (size-is, le-ltb (length out) size h) in
-        let room : 0 + length (fileOf t) ≤ length out = omega (arith, size-is) in
-        record {
-          answer = rw (said, size-is);
-          bytes = e ∙ ap (sets out 0) file-is ∙ sets-eq (fileOf t) out 0 room ∙ rw (said, zero-add);
-        }
-
+-- nothing stands against a table that was not refused
 fault-free : (c : tie.Else1) → codeOf (faultOf (c .before .before .before .before .args .table)) ≡ 0
 fault-free c = sym (ap codeOf (c .before .before .fault-of .ensures)) ∙ (sym (c .before .code-of .ensures) ∙ c .if1 .left)
 
@@ -63,8 +34,11 @@ fault-of-requires c κs = search needs
 code-of-requires : tie.Need-code-of-requires
 code-of-requires c κs = search needs
 
+refused-requires : tie.Need-refused-requires
+refused-requires c κs = search needs
+
 returns : tie.Need-returns
-returns c = faulty _ _ _ _ (c .before .before .fault-of .ensures) (c .before .code-of .ensures) (c .if1 .taken)
+returns c = rw (c .refused .ensures) (refuses-fault _ _ _ _ _ (c .before .before .before .fault-of .ensures) (c .before .before .code-of .ensures) (c .before .if1 .taken))
 
 slice-aggregate-file-numbers : tie.Need-slice-aggregate-file-numbers
 slice-aggregate-file-numbers c = search needs
@@ -73,27 +47,31 @@ file-numbers-requires : tie.Need-file-numbers-requires
 file-numbers-requires c κs = (fault-free (c .before), refl)
 
 array-share-prefix-numbers : tie.Need-array-share-prefix-numbers
-array-share-prefix-numbers c = search needs
+array-share-prefix-numbers c = omega (arith, c .before .file-numbers .ensures .fits)
 
 slice-aggregate-size-of-all : tie.Need-slice-aggregate-size-of-all
-slice-aggregate-size-of-all c = sym (length-take-le _ _ (omega (arith, c .before .before .file-numbers .ensures .0)))
+slice-aggregate-size-of-all c = sym (length-take-le _ _ (omega (arith, c .before .before .file-numbers .ensures .fits)))
 
 size-of-all-requires : tie.Need-size-of-all-requires
-size-of-all-requires c κs = rw length-take (omega (arith, c .before .before .file-numbers .ensures .0))
+size-of-all-requires c κs = rw length-take (omega (arith, c .before .before .file-numbers .ensures .fits))
+
+refused-requires-2 : tie.Need-refused-requires-2
+refused-requires-2 c κs = search needs
 
 returns-2 : tie.Need-returns-2
 returns-2 c =
-    let c1 = c .before in
-    let c4 = c1 .before .before .before in
-    let c6 = c4 .before .before in
-    short _ _ (fault-free (c6)) _ (c4 .file-numbers .ensures .1) _ (c1 .size-of-all .ensures) (c .if2 .taken)
+    let c2 = c .before .before in
+    let c5 = c2 .before .before .before in
+    let c7 = c5 .before .before in
+    let size = sym (c2 .size-of-all .ensures ∙ ap length (file-is _ _ _ _ (c5 .file-numbers .ensures))) in
+    rw (c .refused2 .ensures) (refuses-room _ _ _ (fault-free c7) _ size (c .before .if2 .taken))
 
 array-share-prefix-numbers-2 : tie.Need-array-share-prefix-numbers-2
-array-share-prefix-numbers-2 c = search needs
+array-share-prefix-numbers-2 c = omega (arith, c .before .before .before .before .before .file-numbers .ensures .fits)
 
 slice-aggregate-put-all : tie.Need-slice-aggregate-put-all
 slice-aggregate-put-all c =
-    sym (length-take-le _ _ (omega (arith, c .before .before .before .before .before .before .file-numbers .ensures .0)))
+    sym (length-take-le _ _ (omega (arith, c .before .before .before .before .before .before .file-numbers .ensures .fits)))
 
 put-all-requires : tie.Need-put-all-requires
 put-all-requires c κs = search needs
@@ -108,7 +86,9 @@ returns-3 c =
     let c6 = c5 .before in
     let c9 = c6 .before .before .before in
     let c11 = c9 .before .before in
-    done _ _ (fault-free (c11)) _ (c9 .file-numbers .ensures .1) _ (c6 .size-of-all .ensures) (c5 .if2 .left) _ (c2 .put-all .ensures)
+    let file = file-is _ _ _ _ (c9 .file-numbers .ensures) in
+    let size = sym (c6 .size-of-all .ensures ∙ ap length file) in
+    writes-all _ _ _ (fault-free c11) _ size (c5 .if2 .left) _ (c2 .put-all .ensures ∙ rw file)
 
 pub write-spec : {M : Type 1} → statement M
 write-spec =
@@ -116,12 +96,14 @@ write-spec =
     (tie.spec
     fault-of-requires
     code-of-requires
+    refused-requires
     returns
     slice-aggregate-file-numbers
     file-numbers-requires
     array-share-prefix-numbers
     slice-aggregate-size-of-all
     size-of-all-requires
+    refused-requires-2
     returns-2
     array-share-prefix-numbers-2
     slice-aggregate-put-all

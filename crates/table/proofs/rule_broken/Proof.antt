@@ -10,13 +10,13 @@ use Rattle.table.specs.declared.Row.{Row}
 use Rattle.table.specs.declared.Rule.{Rule}
 use Rattle.table.specs.declared.Verdict.the-variants.{Good}
 use Rattle.table.specs.Memory.{usedRows}
-use Rattle.table.specs.Clash.{clash, breaks, named, broken}
+use Rattle.table.specs.Clash.{clash, breaks, ruleVerdict, broken}
 use Rattle.table.proofs.Rows.{length-mapped, used-length}
 use Rattle.table.proofs.rule_broken.Statement.{statement}
 use Rattle.table.proofs.rule_broken.Tie as tie
 
 module _ (rule : Rule) (rows : List Row) {row n : ℕ} (first : row ≡ clash (breaks rule) rows) (all : length rows ≡ n) where
-  hit : row < n → named rule row ≡ broken rule rows
+  hit : row < n → ruleVerdict rule row ≡ broken rule rows
   unfolding broken
   hit h = rw (← first, lt-ltb row (length rows) (omega arith))
 

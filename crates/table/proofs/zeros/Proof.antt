@@ -1,5 +1,5 @@
 -- `table::zeros` meets its contract. Assumes nothing.
-use Rattle.table.specs.Memory.{allTimes}
+use Rattle.lists.specs.Lists.{each}
 use borrow.Author.Needs.{needs}
 use Rattle.table.proofs.zeros.Statement.{statement}
 use Rattle.table.proofs.zeros.Tie as tie
@@ -8,7 +8,7 @@ row-of-requires : tie.Need-row-of-requires
 row-of-requires c κs = search needs
 
 returns : tie.Need-returns
-unfolding allTimes
+unfolding each
 returns c = rw (c .row-of .ensures)
 
 pub zeros-spec : {M : Type 1} → statement M

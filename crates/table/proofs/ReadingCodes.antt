@@ -1,0 +1,75 @@
+-- The faults of a table and of a number are verdicts that reading a file gives. Assumes nothing.
+use Prim.Native.Nat.{ℕ, suc, _+_}
+use mathlib.Core.Path.{_≡_, refl}
+use mathlib.Core.Bool.{Bool, true, false, _||_}
+use mathlib.Core.List.{List, [], _∷_}
+use lib.ListN.{length, drop, replicate}
+use lib.Dec.{ltb}
+use Rattle.lists.specs.Lists.{pick}
+use Rattle.table.specs.declared.Row.{Row}
+use Rattle.table.specs.declared.Rule.{Rule}
+use Rattle.table.specs.declared.Rule.the-variants as R
+use Rattle.table.specs.declared.Table.{Table}
+use Rattle.table.specs.declared.Verdict.{Verdict}
+use Rattle.table.specs.declared.Verdict.the-variants.{Good, OutOfRange, TooManyTimes}
+use Rattle.table.specs.Verdicts.{good, reading, _orElse_}
+use Rattle.table.specs.Fields.{Wanted, head, time, fieldsOf, judge, faultIn}
+use Rattle.table.specs.Memory.{usedRows}
+use Rattle.table.specs.Clash.{breaks, clash, ruleVerdict, broken, clashOf}
+use Rattle.table.specs.Faults.{rowFault, rowsFault, faultOf}
+
+-- one of two
+pick-reading : (b : Bool) (v w : Verdict) → reading v ≡ true → reading w ≡ true → reading (pick b v w) ≡ true
+pick-reading true v w p q = p
+pick-reading false v w p q = q
+
+-- the first fault
+or-reading : (v w : Verdict) → reading v ≡ true → reading w ≡ true → reading (v orElse w) ≡ true
+unfolding _orElse_
+or-reading v w p q = pick-reading (good v) w v q p
+
+-- a number's own fault
+pub judge-reading : (w : Wanted) (carried n : ℕ) → reading (judge w carried n) ≡ true
+unfolding judge
+judge-reading w carried n =
+    pick-reading (ltb n (w .low) || ltb (w .high) n) (OutOfRange carried) _ refl
+    (pick-reading (ltb (w .left) n) (TooManyTimes carried) Good refl refl)
+
+-- numbers one after another
+faults-reading : (ws : List Wanted) (carried : ℕ) (ns : List ℕ) → reading (faultIn ws carried ns) ≡ true
+unfolding faultIn
+faults-reading [] carried ns = refl
+faults-reading (w ∷ ws) carried [] = refl
+faults-reading (w ∷ ws) carried (n ∷ ns) = or-reading (judge w carried n) _ (judge-reading w carried n) (faults-reading ws carried ns)
+
+-- rows one after another
+rows-reading : (i used : ℕ) (rows : List Row) (times : List ℕ) → reading (rowsFault i used rows times) ≡ true
+unfolding rowsFault rowFault
+rows-reading i used [] times = refl
+rows-reading i used (r ∷ rs) times =
+    or-reading _ _
+    (or-reading (faultIn (head used) i (fieldsOf r)) _ (faults-reading (head used) i (fieldsOf r)) (faults-reading (replicate (r .parts) time) i _))
+    (rows-reading (suc i) (used + r .parts) rs (drop (r .parts) times))
+
+-- a rule's verdict
+rule-reading : (rule : Rule) (rows : List Row) → reading (broken rule rows) ≡ true
+unfolding broken
+rule-reading rule rows = pick-reading (ltb (clash (breaks rule) rows) (length rows)) _ Good (of-rule rule _) refl
+  where
+    of-rule : (rule : Rule) (n : ℕ) → reading (ruleVerdict rule n) ≡ true
+    of-rule R.SameId n = refl
+    of-rule R.SamePriority n = refl
+    of-rule R.KindsCrossed n = refl
+
+-- the rules over the whole table
+pub clash-reading : (rows : List Row) → reading (clashOf rows) ≡ true
+unfolding clashOf
+clash-reading rows =
+    or-reading _ _ (rule-reading R.SameId rows) (or-reading _ _ (rule-reading R.SamePriority rows) (rule-reading R.KindsCrossed rows))
+
+-- the whole table
+pub fault-reading : (t : Table) → reading (faultOf t) ≡ true
+unfolding faultOf
+fault-reading t =
+    pick-reading (ltb 64 (t .count)) (OutOfRange 64) _ refl
+    (or-reading _ _ (rows-reading 0 0 (usedRows t) (t .times)) (clash-reading (usedRows t)))
