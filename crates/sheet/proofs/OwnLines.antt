@@ -13,7 +13,8 @@ use Rattle.model.specs.Task.{Task, parts}
 use Rattle.model.specs.Bounds.{onCore, bound}
 use Rattle.table.specs.Verdicts.{codeOf}
 use Rattle.analysis.specs.Analysis.{needed, coreSaid}
-use Rattle.sheet.specs.Text.{digit, decimalIn, decimal, line, each}
+use Rattle.text.specs.Text.{digit, decimalIn, decimal, line}
+use Rattle.sheet.specs.Text.{each}
 use Rattle.sheet.specs.Sheet.{boundLine, coreLine, rowLines, linesOf, coreTextOf, coreText}
 use Rattle.sheet.specs.Claims.{feeds, LineAt, LineOfItsRow}
 

@@ -13,7 +13,8 @@ use Rattle.table.specs.Memory.{allTimes}
 use Rattle.table.specs.Clash as clash
 use Rattle.files.specs.Reading as reading
 use Rattle.analysis.specs.Analysis.{needed, named, roomSaid, coreSaid}
-use Rattle.sheet.specs.Text.{decimalIn, decimal, line, each}
+use Rattle.text.specs.Text.{decimalIn, decimal, line}
+use Rattle.sheet.specs.Text.{each}
 use Rattle.sheet.specs.Sheet as sheet
 use Rattle.sheet.specs.SetA.{fileA, reportA, SetAReport}
 

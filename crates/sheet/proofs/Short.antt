@@ -23,10 +23,11 @@ use Rattle.table.specs.declared.Verdict.{Verdict}
 use Rattle.table.specs.Verdicts.{codeOf, numberOf}
 use Rattle.table.specs.Memory.{rowOf, allTimes}
 use Rattle.analysis.specs.Analysis.{needed, named}
-use Rattle.sheet.specs.Text.{decimal, line, each}
+use Rattle.text.specs.Text.{decimal, line}
+use Rattle.sheet.specs.Text.{each}
 use Rattle.sheet.specs.Sheet.{boundLine, coreLine, fileLine, header, rowLines, linesOf, coreTextOf, coreText, goodText}
 use Rattle.sheet.specs.Promises.{partsOn}
-use Rattle.sheet.proofs.Decimals.{decimal-short}
+use Rattle.text.proofs.Decimals.{decimal-short}
 use Rattle.sheet.proofs.Each.{each-short}
 use Rattle.sheet.proofs.CoreTexts.{parts-needed, said-is}
 

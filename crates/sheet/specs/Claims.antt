@@ -12,7 +12,7 @@ use Rattle.table.specs.declared.Verdict.the-variants.{Good}
 use Rattle.table.specs.Verdicts.{codeOf}
 use Rattle.analysis.specs.Analysis.{needed, coreSaid}
 use Rattle.sheet.specs.declared.Printed.{Printed}
-use Rattle.sheet.specs.Text.{lineFeed}
+use Rattle.text.specs.Text.{lineFeed}
 use Rattle.sheet.specs.Sheet.{boundLine, coreText, sheetText, Prints}
 
 -- header 34, each of at most 1,024 bounds 29, each of four verdict lines 28

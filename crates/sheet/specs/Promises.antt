@@ -1,4 +1,4 @@
--- How the text stands behind the functions on the way.
+-- Inner: how the text stands behind the functions on the way.
 use Prim.Native.Nat.{ℕ, _+_, _≤_}
 use mathlib.Core.List.{List, [], _∷_, _++_}
 use lib.ListN.{length, getD, take, drop}
@@ -11,10 +11,6 @@ use Rattle.table.specs.Verdicts.{codeOf}
 use Rattle.table.specs.Memory.{usedRows}
 use Rattle.sheet.specs.Text.{each}
 use Rattle.sheet.specs.Sheet.{boundLine, coreLine}
-
--- text has room in lent bytes from a place on
-pub record Fits (text : List ℕ) (at : ℕ) (out : List ℕ) : Type 0 where
-  pub room : at + length text ≤ length out
 
 -- a row's lines, from its bounds in order
 unfoldable pub rowText : ℕ → Row → List ℕ → List ℕ

@@ -13,7 +13,8 @@ use Rattle.table.specs.Verdicts.{codeOf, numberOf}
 use Rattle.files.specs.Reading.{Step, stop, go, decode}
 use Rattle.analysis.specs.Analysis.{needed, coreSaid}
 use Rattle.sheet.specs.declared.Printed.{Printed}
-use Rattle.sheet.specs.Text.{decimal, line, each}
+use Rattle.text.specs.Text.{decimal, line}
+use Rattle.sheet.specs.Text.{each}
 
 -- "core"
 abbrev pub coreWord : List ℕ

@@ -9,11 +9,11 @@ use Rattle.table.specs.Verdicts.{codeOf}
 use Rattle.table.specs.Memory.{usedRows, tasksOf}
 use Rattle.table.specs.Faults.{faultOf}
 use Rattle.table.proofs.Rows.{length-mapped}
-use Rattle.files.specs.Promises.{PutAt}
 use Rattle.analysis.specs.declared.Analysed.{Analysed}
 use Rattle.analysis.specs.Analysis.{AnalysesTable}
 use Rattle.sheet.specs.Sheet.{coreText}
-use Rattle.sheet.specs.Promises.{Fits, Enough, coreBytes}
+use Rattle.text.specs.Promises.{Fits, PutAt}
+use Rattle.sheet.specs.Promises.{Enough, coreBytes}
 use Rattle.sheet.proofs.CoreTexts.{enough, text-is}
 use Rattle.sheet.proofs.put_analysed.Statement.{statement}
 use Rattle.sheet.proofs.put_analysed.Tie as tie

@@ -7,10 +7,10 @@ use mathlib.Core.List.{List, _++_}
 use Rattle.table.specs.declared.Row.{Row}
 use Rattle.table.specs.declared.Verdict.{Verdict}
 use Rattle.table.specs.Verdicts.{codeOf}
-use Rattle.files.specs.Promises.{PutAt}
 use Rattle.sheet.specs.Sheet.{coreLine}
-use Rattle.sheet.specs.Promises.{Fits, rowsText, coreBytes}
-use Rattle.sheet.proofs.Puts.{starts, room, turn, last}
+use Rattle.text.specs.Promises.{Fits, PutAt}
+use Rattle.sheet.specs.Promises.{rowsText, coreBytes}
+use Rattle.text.proofs.Puts.{starts, room, turn, last}
 use Rattle.sheet.proofs.put_core.Statement.{statement}
 use Rattle.sheet.proofs.put_core.Tie as tie
 

@@ -8,11 +8,11 @@ use Rattle.table.specs.declared.Table.{Table}
 use Rattle.table.specs.Verdicts.{codeOf}
 use Rattle.table.specs.Memory.{tasksOf}
 use Rattle.table.specs.Faults.{faultOf}
-use Rattle.files.specs.Promises.{PutAt}
-use Rattle.sheet.specs.Text.{line, each}
+use Rattle.text.specs.Text.{line}
+use Rattle.sheet.specs.Text.{each}
 use Rattle.sheet.specs.Sheet.{header, coreText, goodText}
-use Rattle.sheet.specs.Promises.{Fits}
-use Rattle.sheet.proofs.Puts.{Putting, starts, room, turn, ends, last}
+use Rattle.text.specs.Promises.{Fits, PutAt}
+use Rattle.text.proofs.Puts.{Putting, starts, room, turn, ends, last}
 use Rattle.sheet.proofs.Each.{each-more, each-none}
 use Rattle.sheet.proofs.put_cores.Statement.{statement}
 use Rattle.sheet.proofs.put_cores.Tie as tie

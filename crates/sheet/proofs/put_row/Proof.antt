@@ -6,11 +6,11 @@ use borrow.Author.Needs.{needs}
 use mathlib.Core.List.{List}
 use lib.ListN.{length, getD}
 use Rattle.table.specs.declared.Row.{Row}
-use Rattle.files.specs.Promises.{PutAt}
 use Rattle.sheet.specs.Text.{each}
 use Rattle.sheet.specs.Sheet.{boundLine}
-use Rattle.sheet.specs.Promises.{Fits, rowText}
-use Rattle.sheet.proofs.Puts.{Putting, starts, room, turn, ends}
+use Rattle.text.specs.Promises.{Fits, PutAt}
+use Rattle.sheet.specs.Promises.{rowText}
+use Rattle.text.proofs.Puts.{Putting, starts, room, turn, ends}
 use Rattle.sheet.proofs.Each.{each-more, each-none}
 use Rattle.sheet.proofs.put_row.Statement.{statement}
 use Rattle.sheet.proofs.put_row.Tie as tie

@@ -12,9 +12,9 @@ use Rattle.table.specs.declared.Row.{Row}
 use Rattle.table.specs.declared.Table.{Table}
 use Rattle.table.specs.Memory.{zeroRow, usedRows}
 use Rattle.table.proofs.Rows.{length-mapped, used-more}
-use Rattle.files.specs.Promises.{PutAt}
-use Rattle.sheet.specs.Promises.{Fits, Enough, rowText, partsOn, rowsText}
-use Rattle.sheet.proofs.Puts.{Putting, starts, room, turn, ends}
+use Rattle.text.specs.Promises.{Fits, PutAt}
+use Rattle.sheet.specs.Promises.{Enough, rowText, partsOn, rowsText}
+use Rattle.text.proofs.Puts.{Putting, starts, room, turn, ends}
 use Rattle.sheet.proofs.put_rows.Statement.{statement}
 use Rattle.sheet.proofs.put_rows.Tie as tie
 

@@ -9,11 +9,10 @@ use Rattle.numbers.specs.Numbers.{Bytes}
 use Rattle.table.specs.Verdicts.{codeOf}
 use Rattle.table.specs.Memory.{tasksOf}
 use Rattle.table.specs.Faults.{faultOf}
-use Rattle.files.specs.Promises.{PutAt}
 use Rattle.files.specs.declared.Loaded.{Loaded}
 use Rattle.files.specs.Reading.{readAnswer}
 use Rattle.sheet.specs.Sheet.{fileLine, goodText, sheetText}
-use Rattle.sheet.specs.Promises.{Fits}
+use Rattle.text.specs.Promises.{Fits, PutAt}
 use Rattle.sheet.proofs.Files.{refused-text, good-text, text-is-short}
 use Rattle.sheet.proofs.put_sheet.Statement.{statement}
 use Rattle.sheet.proofs.put_sheet.Tie as tie

@@ -11,9 +11,8 @@ use lib.Seq.{sets, sets-eq, length-sets, length-take-le}
 use Rattle.lists.proofs.Stores.{take-sets}
 use Rattle.numbers.specs.Numbers.{Bytes}
 use Rattle.table.specs.declared.Verdict.the-variants.{Good, NoRoom}
-use Rattle.files.specs.Promises.{PutAt}
 use Rattle.sheet.specs.Sheet.{sheetText, printAnswer, printed, Prints}
-use Rattle.sheet.specs.Promises.{Fits}
+use Rattle.text.specs.Promises.{Fits, PutAt}
 use Rattle.sheet.proofs.Files.{text-is-short}
 use Rattle.sheet.proofs.sheet.Statement.{statement}
 use Rattle.sheet.proofs.sheet.Tie as tie

@@ -6,8 +6,7 @@ use mathlib.Core.List.{List, [], _∷_, _++_}
 use lib.ListN.{length, set, length-append}
 use lib.Seq.{sets, length-sets}
 use Rattle.lists.proofs.Stores.{sets-append}
-use Rattle.files.specs.Promises.{PutAt}
-use Rattle.sheet.specs.Promises.{Fits}
+use Rattle.text.specs.Promises.{Fits, PutAt}
 
 -- `whole` is put into out₀ at a place; as far as p it is done, and `rest` is left
 pub record Putting (whole out₀ : List ℕ) (at : ℕ) (out : List ℕ) (p : ℕ) (rest : List ℕ) : Type 0 where

@@ -6,10 +6,9 @@ use mathlib.Core.Path.{_≡_, refl}
 use mathlib.Core.List.{List, [], _∷_, _++_, map}
 use lib.ListN.{length, getD, drop, drop-of-length-le}
 use lib.Seq.{drop-cons}
-use Rattle.files.specs.Promises.{PutAt}
-use Rattle.sheet.specs.Text.{space, lineFeed, decimal, line}
-use Rattle.sheet.specs.Promises.{Fits}
-use Rattle.sheet.proofs.Puts.{Putting, room, turn, last}
+use Rattle.text.specs.Text.{space, lineFeed, decimal, line}
+use Rattle.text.specs.Promises.{Fits, PutAt}
+use Rattle.text.proofs.Puts.{Putting, room, turn, last}
 
 module _ {whole out₀ : List ℕ} {at : ℕ} {out : List ℕ} {p : ℕ} (w v : List ℕ) (ws : List (List ℕ))
     (k : Putting whole out₀ at out p (line (w ∷ v ∷ ws))) where

@@ -1,17 +1,16 @@
--- `sheet::put_numbers` meets its contract: each number but the last and a space, then the last and the line feed. Assumes nothing.
+-- `text::put_numbers` meets its contract: each number but the last and a space, then the last and the line feed. Assumes nothing.
 use Prim.Native.Nat.{ℕ, suc, _+_, _-_, _≤_, _<_}
 use native.Mathlib.Omega.{arith}
 use borrow.Author.Needs.{needs}
 use mathlib.Core.Path.{_≡_}
 use mathlib.Core.List.{List, [], _∷_, _++_, map}
 use lib.ListN.{length, getD, drop}
-use Rattle.files.specs.Promises.{PutAt}
-use Rattle.sheet.specs.Text.{space, lineFeed, decimal, line}
-use Rattle.sheet.specs.Promises.{Fits}
-use Rattle.sheet.proofs.Puts.{Putting, starts, room, turn, last}
-use Rattle.sheet.proofs.Lines.{numbers-more, numbers-last}
-use Rattle.sheet.proofs.put_numbers.Statement.{statement}
-use Rattle.sheet.proofs.put_numbers.Tie as tie
+use Rattle.text.specs.Text.{space, lineFeed, decimal, line}
+use Rattle.text.specs.Promises.{Fits, PutAt}
+use Rattle.text.proofs.Puts.{Putting, starts, room, turn, last}
+use Rattle.text.proofs.Lines.{numbers-more, numbers-last}
+use Rattle.text.proofs.put_numbers.Statement.{statement}
+use Rattle.text.proofs.put_numbers.Tie as tie
 
 record Numbers (ns out₀ : List ℕ) (at : ℕ) (out : List ℕ) (p i : ℕ) : Type 0 where
   upto : suc i ≤ length ns

@@ -1,11 +1,11 @@
--- `sheet::put_word` meets its contract. Assumes nothing.
+-- `text::put_word` meets its contract. Assumes nothing.
 use native.Mathlib.Omega.{arith}
 use borrow.Author.Needs.{needs}
 use mathlib.Core.Path.{refl}
 use mathlib.Core.List.{[], _∷_}
-use Rattle.sheet.proofs.Puts.{starts, byte-put, room, turn, last}
-use Rattle.sheet.proofs.put_word.Statement.{statement}
-use Rattle.sheet.proofs.put_word.Tie as tie
+use Rattle.text.proofs.Puts.{starts, byte-put, room, turn, last}
+use Rattle.text.proofs.put_word.Statement.{statement}
+use Rattle.text.proofs.put_word.Tie as tie
 
 put-bytes-requires : tie.Need-put-bytes-requires
 put-bytes-requires c κs = room (starts _ _ _ (c .before .before .before .pre)) _ (_ ∷ []) refl

@@ -9,7 +9,7 @@ use mathlib.Core.List.{[], _∷_, _++_}
 use lib.ListN.{length, length-append}
 use Rattle.lists.proofs.Tests.{either}
 use Rattle.io.specs.Digits.{digits, Fewest}
-use Rattle.sheet.specs.Text.{digit, decimalIn, decimal, Decimal}
+use Rattle.text.specs.Text.{digit, decimalIn, decimal, Decimal}
 
 -- enough fuel is enough
 more-fuel : (k m n : ℕ) → n < k → n < m → decimalIn k n ≡ decimalIn m n

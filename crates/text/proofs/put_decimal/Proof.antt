@@ -1,9 +1,9 @@
--- `sheet::put_decimal` meets its contract: the digits are the decimal form. Assumes nothing.
+-- `text::put_decimal` meets its contract: the digits are the decimal form. Assumes nothing.
 use borrow.Author.Needs.{needs}
 use mathlib.Core.Path.{_∙_}
-use Rattle.sheet.proofs.Decimals.{digits-are}
-use Rattle.sheet.proofs.put_decimal.Statement.{statement}
-use Rattle.sheet.proofs.put_decimal.Tie as tie
+use Rattle.text.proofs.Decimals.{digits-are}
+use Rattle.text.proofs.put_decimal.Statement.{statement}
+use Rattle.text.proofs.put_decimal.Tie as tie
 
 decimal-requires : tie.Need-decimal-requires
 decimal-requires c κs = search needs

@@ -1,4 +1,4 @@
--- `sheet::put_bytes` meets its contract: byte by byte. Assumes nothing.
+-- `text::put_bytes` meets its contract: byte by byte. Assumes nothing.
 use Prim.Native.Nat.{ℕ, _+_, _-_, _≤_, _<_}
 use native.Mathlib.Numerals.{add-one}
 use native.Mathlib.Omega.{arith}
@@ -7,10 +7,10 @@ use mathlib.Core.Path.{_≡_}
 use mathlib.Core.List.{List, [], _∷_, _++_}
 use lib.ListN.{length, getD, drop, set, length-drop, drop-of-length-le}
 use lib.Seq.{drop-cons}
-use Rattle.files.specs.Promises.{PutAt}
-use Rattle.sheet.proofs.Puts.{Putting, starts, byte-put, turn, ends}
-use Rattle.sheet.proofs.put_bytes.Statement.{statement}
-use Rattle.sheet.proofs.put_bytes.Tie as tie
+use Rattle.text.specs.Promises.{PutAt}
+use Rattle.text.proofs.Puts.{Putting, starts, byte-put, turn, ends}
+use Rattle.text.proofs.put_bytes.Statement.{statement}
+use Rattle.text.proofs.put_bytes.Tie as tie
 
 record Copying (bytes out₀ : List ℕ) (at : ℕ) (out : List ℕ) (p i : ℕ) : Type 0 where
   upto : i ≤ length bytes
