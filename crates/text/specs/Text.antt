@@ -2,7 +2,7 @@
 use Prim.Native.Nat.{ℕ, zero, suc, _+_, _/_, _%_, _≤_, _<_}
 use mathlib.Core.Path.{_≡_}
 use mathlib.Core.List.{List, [], _∷_, _++_}
-use lib.Dec.{ltb}
+use lib.Dec.{eqb, ltb}
 use Rattle.lists.specs.Lists.{pick}
 
 abbrev pub space : ℕ
@@ -34,3 +34,13 @@ unfoldable pub line : List (List ℕ) → List ℕ
 line [] = lineFeed ∷ []
 line (w ∷ []) = w ++ (lineFeed ∷ [])
 line (w ∷ v ∷ ws) = w ++ (space ∷ []) ++ line (v ∷ ws)
+
+-- a byte in front of lines belongs to the first
+unfoldable pub inFirst : ℕ → List (List ℕ) → List (List ℕ)
+inFirst b [] = (b ∷ []) ∷ []
+inFirst b (l ∷ ls) = (b ∷ l) ∷ ls
+
+-- the lines of a text in order, each with the line feed that ends it
+unfoldable pub linesIn : List ℕ → List (List ℕ)
+linesIn [] = []
+linesIn (b ∷ bs) = pick (eqb b lineFeed) ((b ∷ []) ∷ linesIn bs) (inFirst b (linesIn bs))

@@ -20,7 +20,7 @@ module _ {ns out₀ : List ℕ} {at : ℕ} {out : List ℕ} {p i : ℕ} (n : Num
   module _ (h : i < length ns - 1) where
     -- the next number and a space have room
     fits : Fits (decimal (getD ns i 0) ++ (space ∷ [])) p out
-    fits = room (n .putting) (decimal (getD ns i 0) ++ (space ∷ [])) (line (map decimal (drop (i + 1) ns))) (numbers-more ns i (omega arith))
+    fits = room (n .putting) (decimal (getD ns i 0) ++ (space ∷ [])) _ (numbers-more ns i (omega arith))
 
     -- one number more
     step : {q : ℕ} {out′ : List ℕ} → PutAt (decimal (getD ns i 0) ++ (space ∷ [])) p out q out′ → Numbers ns out₀ at out′ q (i + 1)
