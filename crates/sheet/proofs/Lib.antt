@@ -1,4 +1,3 @@
-pub mod Each
 pub mod CoreTexts
 pub mod Short
 pub mod Files

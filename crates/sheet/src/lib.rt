@@ -8,7 +8,7 @@ ghost use Rattle.text.specs.Text.{line};
 ghost use Rattle.text.specs.Promises.{Fits, PutAt};
 ghost use Rattle.sheet.specs.Sheet.{verdictWords, boundLine, coreLine, fileLine};
 ghost use Rattle.sheet.specs.Sheet.{coreText, goodText, sheetText, Prints};
-ghost use Rattle.sheet.specs.Promises.{Enough, rowText, partsOn, rowsText, coreBytes};
+ghost use Rattle.sheet.specs.Promises.{BoundsFor, rowText, partsOn, rowsText, coreBytes};
 use table::Row;
 use table::Table;
 use table::Verdict;
@@ -67,7 +67,7 @@ fn parts_on(core: u32, row: Row) -> usize
 
 // Writes the lines of a core, from the table and the core's bounds.
 fn put_rows(out: &mut [u8], at: usize, core: u32, t: Table, bounds: &[u32]) -> usize
-    requires { ⌜ Enough core t (length (now bounds)) × Fits (rowsText core (usedRows t) (now bounds)) at (now out) ⌝ }
+    requires { ⌜ BoundsFor core t (length (now bounds)) × Fits (rowsText core (usedRows t) (now bounds)) at (now out) ⌝ }
     ensures { λ r. ⌜ PutAt (rowsText core (usedRows t) (now (bounds .entry))) at (now (out .entry)) r (now (out .exit)) ⌝ }
 {
     let n = t.count;
@@ -105,7 +105,7 @@ fn put_file_line(out: &mut [u8], v: Verdict) -> usize
 
 // Writes what is said of a core: with code 11 only the verdict.
 fn put_core(out: &mut [u8], at: usize, core: u32, t: Table, v: Verdict, bounds: &[u32]) -> usize
-    requires { ⌜ Enough core t (length (now bounds)) × Fits (coreBytes core (usedRows t) (now bounds) v) at (now out) ⌝ }
+    requires { ⌜ BoundsFor core t (length (now bounds)) × Fits (coreBytes core (usedRows t) (now bounds) v) at (now out) ⌝ }
     ensures { λ r. ⌜ PutAt (coreBytes core (usedRows t) (now (bounds .entry)) v) at (now (out .entry)) r (now (out .exit)) ⌝ }
 {
     if table::code_of(v) == 11 {

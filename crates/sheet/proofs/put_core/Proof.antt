@@ -25,7 +25,8 @@ module _ (core : ℕ) (rows : List Row) (bounds : List ℕ) (v : Verdict) {code 
   only-fits e h = rw (only e) at h
 
   -- and is the whole
-  only-put : {at q : ℕ} {out out′ : List ℕ} → code ≡ 11 → PutAt (coreLine core v) at out q out′ → PutAt (coreBytes core rows bounds v) at out q out′
+  only-put : {at q : ℕ} {out out′ : List ℕ} → code ≡ 11 → PutAt (coreLine core v) at out q out′
+      → PutAt (coreBytes core rows bounds v) at out q out′
   only-put e put = rw (only e) put
 
   -- else the lines and the verdict
@@ -76,8 +77,8 @@ returns-2 c =
     let c8 = c6 .before .before in
     let c9 = c8 .before in
     let c12 = c9 .before .before .before in
-    let k = starts _ _ _ (c12 .pre .1) in
-    last (turn k (rowsText _ _ _) _ (both _ _ _ _ (c9 .code-of .ensures) (c8 .if1 .left)) (c6 .put-rows .ensures)) (c2 .put-core-line2 .ensures)
+    let cut = both _ _ _ _ (c9 .code-of .ensures) (c8 .if1 .left) in
+    last (turn (starts _ _ _ (c12 .pre .1)) (rowsText _ _ _) _ cut (c6 .put-rows .ensures)) (c2 .put-core-line2 .ensures)
 
 pub put-core-spec : {M : Type 1} → statement M
 put-core-spec =
