@@ -9,8 +9,10 @@ use mathlib.Core.List.{List, [], _∷_, _++_, map, append-assoc}
 use lib.ListN.{length, take, drop, length-append}
 use lib.Seq.{take-at, drop-at}
 use lib.Dec.{eqb}
-use Rattle.lists.specs.Lists.{keep, total}
+use Rattle.lists.specs.Lists.{keep, each, total, listed, upTo}
+use Rattle.lists.proofs.Each.{each-same}
 use Rattle.lists.proofs.Listed.{listed-length, listed-at}
+use Rattle.lists.proofs.Counted.{counted-below}
 use Rattle.lists.proofs.Tests.{by-test, never}
 use Rattle.model.specs.Task.{Task, parts}
 use Rattle.model.specs.Bounds.{onCore, bound, rowBounds, CoreVerdict, passes, noWindow, misses, coreVerdict}
@@ -22,11 +24,10 @@ use Rattle.table.specs.Faults.{faultOf}
 use Rattle.table.proofs.Codes.{or-good}
 use Rattle.table.proofs.GoodTasks.{times-fit, count-few, rows-same, tasks-good}
 use Rattle.analysis.specs.declared.Analysed.{Analysed}
-use Rattle.analysis.specs.Analysis.{needed, boundsOf, coreBounds, named, roomSaid, coreSaid, writes, answered, roomAfter, Gives, tableSaid}
-use Rattle.sheet.specs.Text.{each}
-use Rattle.sheet.specs.Sheet.{boundLine, rowLines, linesOf, coreTextOf, coreText}
-use Rattle.sheet.specs.Promises.{rowText, partsOn, rowsText, coreBytes, Enough}
-use Rattle.sheet.proofs.Each.{each-same}
+use Rattle.analysis.specs.Analysis.{needed, boundsOf, coreBounds, named, roomSaid, coreSaid, writes, answered, roomAfter}
+use Rattle.analysis.specs.Analysis.{tableSaid, AnalysesTable}
+use Rattle.sheet.specs.Sheet.{boundLine, rowLines, coreTextOf, coreText}
+use Rattle.sheet.specs.Promises.{rowText, partsOn, rowsText, coreBytes, BoundsFor}
 
 -- ---- how many bounds there are
 
@@ -55,12 +56,13 @@ row-same : (core : ℕ) (rows : List Task) (t : Task) → rowText core (rowOf t)
 unfolding rowText rowLines rowBounds
 row-same core rows t =
     rw (listed-length (bound rows t) (parts t))
-    (each-same _ _ 0 (parts t)
-    (λ r a h. ap (λ (b : ℕ). boundLine core (t .id) (r + 1) b (t .deadline)) (listed-at (bound rows t) (parts t) r 0 (omega arith))))
+    (each-same _ _ (upTo (parts t))
+    (λ r m. ap (λ (b : ℕ). boundLine core (t .id) (r + 1) b (t .deadline))
+    (listed-at (bound rows t) (parts t) r 0 (counted-below (parts t) r m))))
 
 -- no bounds, no lines
 no-lines : (core : ℕ) (row : Row) → rowText core row [] ≡ []
-unfolding rowText each
+unfolding rowText each listed
 no-lines core row = refl
 
 -- the bounds of a row of the core stand in front
@@ -80,8 +82,8 @@ module _ (rows : List Task) (t : Task) (others rest : List ℕ) where
 
 -- the core's lines, from the rows of all cores and its bounds, whatever stands behind them
 pub lines-same : (core : ℕ) (rows ts : List Task) (rest : List ℕ)
-    → rowsText core (map rowOf ts) (boundsOf rows (onCore core ts) ++ rest) ≡ linesOf core rows (onCore core ts)
-unfolding rowsText partsOn onCore keep boundsOf linesOf
+    → rowsText core (map rowOf ts) (boundsOf rows (onCore core ts) ++ rest) ≡ each (rowLines core rows) (onCore core ts)
+unfolding rowsText partsOn onCore keep boundsOf each
 lines-same core rows [] rest = refl
 lines-same core rows (t ∷ ts) rest =
     by-test (eqb (t .core) core)
@@ -116,37 +118,49 @@ module _ (rows : List Task) (bounds : List ℕ) where
 module _ (core : ℕ) (tasks : List Task) (bounds : List ℕ) where
   -- by the verdict and what it leaves of the bounds
   text-of : (v : CoreVerdict)
-      → coreBytes core (map rowOf tasks) (roomAfter (named v) (onCore core tasks) bounds) (named v) ≡ coreTextOf core (onCore core tasks) (named v)
+      → coreBytes core (map rowOf tasks) (roomAfter (named v) (onCore core tasks) bounds) (named v)
+      ≡ coreTextOf core (onCore core tasks) (named v)
   unfolding coreBytes coreTextOf
   text-of v =
       by-test (eqb (codeOf (named v)) 11) (λ e. rw e)
       (λ e. rw (e, bounds-written (onCore core tasks) bounds v e, lines-same core (onCore core tasks) tasks _))
 
--- a table without a fault, and what analysis gives for one of its cores
-module _ (t : Table) (rows : length (t .rows) ≡ 64) (times : length (t .times) ≡ 1024) (e : codeOf (faultOf t) ≡ 0) (core : ℕ) (h : core ≤ 3) where
+-- a table without a fault, whose rows and times have their lengths by its type, and one of its cores
+pub record CoreOfTable (t : Table) (core : ℕ) : Type 0 where
+  pub rows : length (t .rows) ≡ 64
+  pub times : length (t .times) ≡ 1024
+  pub fine : codeOf (faultOf t) ≡ 0
+  pub small : core ≤ 3
+
+module _ {t : Table} {core : ℕ} (g : CoreOfTable t core) where
+  -- as it stands in the table
+  rows-here : map rowOf (tasksOf t) ≡ usedRows t
+  rows-here = rows-same t (g .rows) (g .times) (g .fine)
+
   -- there is room for its bounds
   room-fits : needed (onCore core (tasksOf t)) ≤ 1024
-  room-fits = omega (arith, needed-fits core (tasksOf t), times-fit 0 (tasksOf t) (omega arith) (tasks-good t rows times e .fine))
+  room-fits =
+      let good = tasks-good t (g .rows) (g .times) (g .fine) .fine in
+      omega (arith, needed-fits core (tasksOf t), times-fit 0 (tasksOf t) (omega arith) good)
 
   -- so a table's 1,024 are enough
-  pub enough : (bounds : ℕ) → bounds ≡ 1024 → Enough core t bounds
+  pub enough : (bounds : ℕ) → bounds ≡ 1024 → BoundsFor core t bounds
   enough bounds long =
       record {
-        rows = count-few t rows times e;
-        parts = rw (← rows-same t rows times e, parts-needed core (tasksOf t)) (omega (arith, room-fits));
+        rows = count-few t (g .rows) (g .times) (g .fine);
+        parts = rw (← rows-here, parts-needed core (tasksOf t)) (omega (arith, room-fits));
         most = omega arith;
       }
 
   -- and what is printed from them is the text of the core
-  pub text-is : (bounds : List ℕ) → length bounds ≡ 1024 → (a : Analysed) (bounds′ : List ℕ)
-      → Gives (tableSaid t core (length bounds)) (onCore core (tasksOf t)) bounds a bounds′
+  pub text-is : {bounds : List ℕ} {a : Analysed} {bounds′ : List ℕ} → length bounds ≡ 1024 → AnalysesTable t core bounds a bounds′
       → coreBytes core (usedRows t) bounds′ (a .verdict) ≡ coreText (tasksOf t) core
   unfolding tableSaid answered coreText
-  text-is bounds long a bounds′ g =
+  text-is {bounds} {a} {bounds′} long gives =
       let mine : List Task = onCore core (tasksOf t) in
       let fits : needed mine ≤ length bounds = omega (arith, room-fits) in
       let said : tableSaid t core (length bounds) ≡ coreSaid core mine (needed mine)
-      = or-good (faultOf t) _ e ∙ said-alike core mine (length bounds) fits in
-      let is : tableSaid t core (length bounds) ≡ named (coreVerdict mine) = said ∙ said-is core mine h in
-      rw (ap (λ (x : Analysed). x .verdict) (g .answer), g .left, is, ← rows-same t rows times e)
-      (text-of core (tasksOf t) bounds (coreVerdict mine) ∙ rw (said-is core mine h))
+      = or-good (faultOf t) _ (g .fine) ∙ said-alike core mine (length bounds) fits in
+      let is : tableSaid t core (length bounds) ≡ named (coreVerdict mine) = said ∙ said-is core mine (g .small) in
+      rw (ap (λ (x : Analysed). x .verdict) (gives .answer), gives .left, is, ← rows-here)
+      (text-of core (tasksOf t) bounds (coreVerdict mine) ∙ rw (said-is core mine (g .small)))

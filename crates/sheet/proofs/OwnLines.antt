@@ -1,142 +1,134 @@
--- Each bound's line has the id, the bound and the deadline of one and the same row. Assumes nothing.
-use Prim.Native.Nat.{ℕ, zero, suc, _+_, _/_, _%_, _<_}
-use native.Mathlib.Nat.{add-zero, zero-add}
+-- The lines of a sheet, each at its place: the header, then of each core the lines of its bounds, row by row, and its verdict.
+-- Assumes nothing.
+use Prim.Native.Nat.{ℕ, suc, _+_, _<_}
+use native.Mathlib.Nat.{add-zero, add-assoc}
 use native.Mathlib.Omega.{arith}
 use borrow.Author.Tests.{ne-eqb}
-use mathlib.Core.Path.{_≡_, refl, sym, ap, _∙_}
-use mathlib.Core.List.{List, [], _∷_, _++_, map, append-assoc}
-use lib.ListN.{take}
-use lib.Dec.{ltb}
-use Rattle.lists.specs.Lists.{total, Place}
+use mathlib.Core.Path.{_≡_, refl, ap, _∙_}
+use mathlib.Core.List.{List, [], _∷_, _++_}
+use lib.ListN.{length, take, length-append}
+use lib.Dec.{eqb}
+use Rattle.lists.specs.Lists.{pick, any, each, total, listed, upTo, Place}
 use Rattle.lists.proofs.Tests.{by-test}
+use Rattle.lists.proofs.Totals.{total-same}
+use Rattle.lists.proofs.Each.{each-length}
+use Rattle.lists.proofs.Listed.{listed-length}
+use Rattle.lists.proofs.Counted.{take-listed}
+use Rattle.lists.proofs.EachPlaces.{place-left, place-right, place-listed, place-each}
 use Rattle.model.specs.Task.{Task, parts}
-use Rattle.model.specs.Bounds.{onCore, bound}
-use Rattle.table.specs.Verdicts.{codeOf}
-use Rattle.analysis.specs.Analysis.{needed, coreSaid}
-use Rattle.sheet.specs.Text.{digit, decimalIn, decimal, line, each}
-use Rattle.sheet.specs.Sheet.{boundLine, coreLine, rowLines, linesOf, coreTextOf, coreText}
-use Rattle.sheet.specs.Claims.{feeds, LineAt, LineOfItsRow}
+use Rattle.model.specs.Bounds.{onCore}
+use Rattle.table.specs.declared.Verdict.{Verdict}
+use Rattle.table.specs.Verdicts.{codeOf, numberOf}
+use Rattle.files.specs.Reading.{go, decode}
+use Rattle.analysis.specs.Analysis.{needed}
+use Rattle.text.specs.Text.{linesIn}
+use Rattle.text.proofs.WholeLines.{decimal-plain, decimals-plain}
+use Rattle.text.proofs.WholeLines.{InLines, line-alone, no-line, append-lines, each-lines, counted-lines, all-lines}
+use Rattle.sheet.specs.Sheet.{header, boundLine, coreLine, partLine, rowLines, coreTextOf}
+use Rattle.sheet.specs.Sheet.{saidOf, coreText, goodText, textOf, sheetText}
+use Rattle.sheet.specs.Claims.{boundCount, linesBefore, LineOfItsRow, LineOfItsCore, NoOtherLine}
 
--- ---- line feeds
+-- ---- the lines
 
--- those of two texts
-feeds-append : (a b : List ℕ) → feeds (a ++ b) ≡ feeds a + feeds b
-unfolding feeds
-feeds-append [] b = omega arith
-feeds-append (x ∷ a) b = omega (arith, feeds-append a b)
+-- of all parts of a row
+abbrev rowList : ℕ → List Task → Task → List (List ℕ)
+rowList core rows t = listed (partLine core rows t) (parts t)
 
--- a digit is none
-digit-feeds : (n : ℕ) → feeds (digit n ∷ []) ≡ 0
-unfolding feeds
-digit-feeds n = rw (ne-eqb (48 + n) 10 (λ e. omega arith))
+-- of a core's bounds
+boundList : List Task → ℕ → List (List ℕ)
+boundList tasks core = pick (eqb (codeOf (saidOf tasks core)) 11) [] (each (rowList core (onCore core tasks)) (onCore core tasks))
 
--- nor has a number any
-decimal-in-feeds : (k n : ℕ) → feeds (decimalIn k n) ≡ 0
-unfolding decimalIn
-decimal-in-feeds zero n = unfold feeds in refl
-decimal-in-feeds (suc k) n =
-    by-test (ltb n 10) (λ e. rw e (digit-feeds n))
-    (λ e. rw (e, feeds-append (decimalIn k (n / 10)) (digit (n % 10) ∷ [])) (omega (arith, decimal-in-feeds k (n / 10), digit-feeds (n % 10))))
+-- and with its verdict
+abbrev coreList : List Task → ℕ → List (List ℕ)
+coreList tasks core = boundList tasks core ++ (coreLine core (saidOf tasks core) ∷ [])
 
--- at any length
-decimal-feeds : (n : ℕ) → feeds (decimal n) ≡ 0
-unfolding decimal
-decimal-feeds n = decimal-in-feeds (suc n) n
+-- ---- the text is these lines
 
--- a line of numbers has one
-numbers-feeds : (n : ℕ) (ns : List ℕ) → feeds (line (map decimal (n ∷ ns))) ≡ 1
-unfolding line
-numbers-feeds n [] = feeds-append (decimal n) (10 ∷ []) ∙ rw (decimal-feeds n) (unfold feeds in refl)
-numbers-feeds n (m ∷ ns) =
-    feeds-append (decimal n ++ (32 ∷ [])) (line (map decimal (m ∷ ns)))
-    ∙ rw (feeds-append (decimal n) (32 ∷ []), decimal-feeds n, numbers-feeds m ns, space-feeds)
-  where
-    space-feeds : feeds (32 ∷ []) ≡ 0
-    space-feeds = unfold feeds in refl
+-- of the header
+header-lines : InLines header (header ∷ [])
+unfolding header any
+header-lines = line-alone _ _ refl
 
--- so has the line of a bound
-bound-feeds : (core id part b deadline : ℕ) → feeds (boundLine core id part b deadline) ≡ 1
-unfolding boundLine
-bound-feeds core id part b deadline = numbers-feeds core (id ∷ part ∷ b ∷ deadline ∷ [])
+-- of a row
+row-lines : (core : ℕ) (rows : List Task) (t : Task) → InLines (rowLines core rows t) (rowList core rows t)
+unfolding rowLines boundLine
+row-lines core rows t =
+    counted-lines (partLine core rows t) (λ r. line-alone _ _ (decimals-plain (core ∷ _ ∷ _ ∷ _ ∷ _ ∷ []))) (λ r. r) (parts t)
 
--- ---- lines in a text
+-- of a verdict
+verdict-lines : (core : ℕ) (v : Verdict) → InLines (coreLine core v) (coreLine core v ∷ [])
+unfolding coreLine any
+verdict-lines core v = line-alone _ _ (rw (decimal-plain core, decimal-plain (codeOf v), decimal-plain (numberOf v)))
 
--- behind more text there are more lines before it
-line-after : (front : List ℕ) {text l : List ℕ} {k : ℕ} → LineAt text k l → LineAt (front ++ text) (feeds front + k) l
-line-after front {text} {l} {k} a =
-    record {
-      front = front ++ a .front;
-      behind = a .behind;
-      whole = ap (_++_ front) (a .whole) ∙ sym (append-assoc front (a .front) (l ++ a .behind));
-      before = feeds-append front (a .front) ∙ ap (_+_ (feeds front)) (a .before);
-      one = a .one;
-    }
+module _ (tasks : List Task) where
+  -- of a core
+  core-lines : (core : ℕ) → InLines (coreText tasks core) (coreList tasks core)
+  unfolding coreText coreTextOf boundList
+  core-lines core =
+      let rows : List Task = onCore core tasks in
+      by-test (eqb (codeOf (saidOf tasks core)) 11)
+      (λ e. rw e (append-lines no-line (verdict-lines core _)))
+      (λ e. rw e (append-lines (each-lines _ (rowList core rows) (row-lines core rows) rows) (verdict-lines core _)))
 
--- what stands behind the text makes no difference
-line-before : (behind : List ℕ) {text l : List ℕ} {k : ℕ} → LineAt text k l → LineAt (text ++ behind) k l
-line-before behind {text} {l} {k} a =
-    record {
-      front = a .front;
-      behind = a .behind ++ behind;
-      whole = ap (λ (x : List ℕ). x ++ behind) (a .whole) ∙ simp append-assoc;
-      before = a .before;
-      one = a .one;
-    }
+  -- of the whole sheet
+  good-lines : InLines (goodText tasks) (header ∷ each (coreList tasks) (upTo 4))
+  unfolding goodText
+  good-lines = append-lines header-lines (each-lines (coreText tasks) (coreList tasks) core-lines (upTo 4))
 
--- piece r of pieces that have one line feed each
-piece-at : (piece : ℕ → List ℕ) → ((k : ℕ) → feeds (piece k) ≡ 1) → (i n r : ℕ) → r < n → LineAt (each piece i n) r (piece (i + r))
-unfolding each
-piece-at piece one i zero r h = absurd (omega arith)
-piece-at piece one i (suc n) zero h =
-    record { front = []; behind = each piece (suc i) n; whole = rw add-zero; before = unfold feeds in refl; one = one (i + zero) }
-piece-at piece one i (suc n) (suc r) h =
-    let same : i + suc r ≡ suc i + r = omega arith in
-    let count : feeds (piece i) + r ≡ suc r = omega (arith, one i) in
-    rw (same, ← count) (line-after (piece i) (piece-at piece one (suc i) n r (omega arith)))
+  -- ---- how many there are
 
--- pieces have as many line feeds
-each-feeds : (piece : ℕ → List ℕ) → ((k : ℕ) → feeds (piece k) ≡ 1) → (i n : ℕ) → feeds (each piece i n) ≡ n
-unfolding each
-each-feeds piece one i zero = unfold feeds in refl
-each-feeds piece one i (suc n) =
-    feeds-append (piece i) (each piece (suc i) n) ∙ omega (arith, one i, each-feeds piece one (suc i) n)
+  -- of rows
+  rows-counted : (core : ℕ) (rows ts : List Task) → total (λ t. length (rowList core rows t)) ts ≡ needed ts
+  unfolding needed
+  rows-counted core rows ts = total-same _ parts ts (λ t m. listed-length (partLine core rows t) (parts t))
 
--- ---- rows
+  -- of a core's bounds
+  bounds-counted : (core : ℕ) → length (boundList tasks core) ≡ boundCount tasks core
+  unfolding boundList boundCount
+  bounds-counted core =
+      let rows : List Task = onCore core tasks in
+      by-test (eqb (codeOf (saidOf tasks core)) 11) (λ e. rw e)
+      (λ e. rw e (each-length (rowList core rows) rows ∙ rows-counted core rows rows))
 
-module _ (core : ℕ) (rows : List Task) where
-  -- the line of part r of a row
-  lineOf : Task → ℕ → List ℕ
-  lineOf t r = boundLine core (t .id) (r + 1) (bound rows t r) (t .deadline)
+  -- of cores
+  cores-counted : (cs : List ℕ) → total (λ c. length (coreList tasks c)) cs ≡ total (λ c. boundCount tasks c + 1) cs
+  cores-counted cs =
+      total-same _ _ cs (λ c m. length-append (boundList tasks c) (coreLine c _ ∷ []) ∙ ap (λ (n : ℕ). n + 1) (bounds-counted c))
 
-  -- it has one line feed
-  one-each : (t : Task) (r : ℕ) → feeds (lineOf t r) ≡ 1
-  unfolding lineOf
-  one-each t r = bound-feeds core (t .id) (r + 1) (bound rows t r) (t .deadline)
+-- ---- each at its place
 
-  -- it stands behind the lines of the parts before
-  in-row : (t : Task) (r : ℕ) → r < parts t → LineAt (rowLines core rows t) r (lineOf t r)
-  unfolding rowLines lineOf
-  in-row t r h = rw (zero-add r) at (piece-at (lineOf t) (one-each t) 0 (parts t) r h)
+module _ (s : List ℕ) (tasks : List Task) (next : ℕ) (e : decode s ≡ go tasks next) where
+  -- the lines of the sheet
+  sheet-lines : linesIn (sheetText s) ≡ header ∷ each (coreList tasks) (upTo 4)
+  unfolding sheetText textOf
+  sheet-lines = ap (λ x. linesIn (textOf x)) e ∙ all-lines (good-lines tasks)
 
-  -- a row has a line for each part
-  row-feeds : (t : Task) → feeds (rowLines core rows t) ≡ parts t
-  unfolding rowLines lineOf
-  row-feeds t = each-feeds (lineOf t) (one-each t) 0 (parts t)
+  -- a core's lines stand behind those of the cores before
+  in-sheet : (core : ℕ) → core < 4 → (k : ℕ) (l : List ℕ) → Place (coreList tasks core) k l
+      → Place (linesIn (sheetText s)) (linesBefore tasks core + k) l
+  unfolding Place linesBefore
+  in-sheet core h k l p =
+      let front : take core (upTo 4) ≡ upTo core = take-listed (λ i. i) 4 core (omega arith) in
+      let count = cores-counted tasks (take core (upTo 4)) ∙ ap (total (λ c. boundCount tasks c + 1)) front in
+      let here : linesBefore tasks core + k ≡ suc (total (λ c. length (coreList tasks c)) (take core (upTo 4)) + k) = omega arith in
+      rw (sheet-lines, here) (place-each (coreList tasks) (upTo 4) core core (place-listed (λ i. i) 4 core h) k l p)
 
-  -- in the lines of rows it stands behind those of the rows before
-  in-lines : (ts : List Task) (i : ℕ) (t : Task) → Place ts i t → (r : ℕ) → r < parts t
-      → LineAt (linesOf core rows ts) (needed (take i ts) + r) (lineOf t r)
-  unfolding linesOf needed total Place
-  in-lines [] i t p r h = absurd p
-  in-lines (u ∷ ts) zero t p r h = rw (p, zero-add r) (line-before (linesOf core rows ts) (in-row t r h))
-  in-lines (u ∷ ts) (suc i) t p r h =
-      let count : feeds (rowLines core rows u) + (total parts (take i ts) + r) ≡ parts u + total parts (take i ts) + r
-      = omega (arith, row-feeds u) in
-      rw (← count) (line-after (rowLines core rows u) (in-lines ts i t p r h))
-
--- and so in the text of the core
 pub line-of-its-row : LineOfItsRow
-unfolding coreText coreTextOf lineOf
-line-of-its-row tasks core some i t p r h =
-    rw (ne-eqb (codeOf (coreSaid core (onCore core tasks) (needed (onCore core tasks)))) 11 some)
-    (line-before (coreLine core _) (in-lines core (onCore core tasks) (onCore core tasks) i t p r h))
+unfolding boundList
+line-of-its-row s tasks next e core h some i t p r q =
+    let rows : List Task = onCore core tasks in
+    let own = place-each (rowList core rows) rows i t p r (partLine core rows t r) (place-listed (partLine core rows t) (parts t) r q) in
+    let mine = place-left _ (coreLine core (saidOf tasks core) ∷ []) _ _ (rw (rows-counted tasks core rows (take i rows)) at own) in
+    rw add-assoc (in-sheet s tasks next e core h (needed (take i rows) + r) _ (rw (ne-eqb (codeOf (saidOf tasks core)) 11 some) mine))
+
+pub line-of-its-core : LineOfItsCore
+unfolding Place
+line-of-its-core s tasks next e core h =
+    let last = place-right (boundList tasks core) (coreLine core (saidOf tasks core) ∷ []) 0 _ refl in
+    in-sheet s tasks next e core h (boundCount tasks core) _ (rw (add-zero, bounds-counted tasks core) at last)
+
+pub no-other-line : NoOtherLine
+unfolding Place linesBefore
+no-other-line s tasks next e =
+    let all = each-length (coreList tasks) (upTo 4) ∙ cores-counted tasks (upTo 4) in
+    (rw (sheet-lines s tasks next e) refl, ap length (sheet-lines s tasks next e) ∙ omega (arith, all))

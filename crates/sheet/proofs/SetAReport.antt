@@ -1,7 +1,7 @@
 -- Set A's report is the one that document 01 prints, by computation. Assumes nothing.
 use Prim.Native.Nat.{ℕ}
 use mathlib.Core.Path.{_≡_, refl, ap, _∙_}
-use Rattle.lists.specs.Lists.{any, keep, total, sum, largest}
+use Rattle.lists.specs.Lists.{any, keep, each, total, sum, largest, listed}
 use Rattle.numbers.specs.Numbers.{groups, numberAt}
 use Rattle.model.specs.Least.{least, scan, found, value, maxBelow}
 use Rattle.model.specs.Task.{parts, part, partsBefore, cost}
@@ -13,7 +13,7 @@ use Rattle.table.specs.Memory.{allTimes}
 use Rattle.table.specs.Clash as clash
 use Rattle.files.specs.Reading as reading
 use Rattle.analysis.specs.Analysis.{needed, named, roomSaid, coreSaid}
-use Rattle.sheet.specs.Text.{decimalIn, decimal, line, each}
+use Rattle.text.specs.Text.{decimalIn, decimal, line}
 use Rattle.sheet.specs.Sheet as sheet
 use Rattle.sheet.specs.SetA.{fileA, reportA, SetAReport}
 
@@ -49,17 +49,17 @@ ends = 0
 
 -- the verdict of a core
 verdicts : ℕ
-unfolding ends bounds.meetsDeadline bounds.above bounds.highest bounds.judgedBy bounds.coreVerdict bounds.onCore needed named roomSaid coreSaid
+unfolding ends bounds.meetsDeadline bounds.above bounds.highest bounds.judgedBy bounds.coreVerdict bounds.onCore
 verdicts = 0
 
 -- in printing
 lines : ℕ
-unfolding decimalIn decimal line each sheet.header sheet.boundLine sheet.coreLine
+unfolding decimalIn decimal line each listed sheet.header sheet.boundLine sheet.coreLine
 lines = 0
 
 -- the cores
 texts : ℕ
-unfolding lines sheet.rowLines sheet.linesOf sheet.coreTextOf sheet.coreText sheet.goodText
+unfolding lines needed named roomSaid coreSaid sheet.rowLines sheet.coreTextOf sheet.coreText sheet.goodText
 texts = 0
 
 -- the file is Set A

@@ -1,14 +1,15 @@
 -- How long the printed text is at most. Assumes nothing.
 use Prim.Native.Nat.{ℕ, zero, suc, _+_, _*_, _^_, _≤_, _<_}
-use native.Mathlib.Nat.{add-mul}
 use native.Mathlib.Omega.{arith}
 use mathlib.Core.Path.{_≡_, refl, _∙_}
 use mathlib.Core.List.{List, [], _∷_, _++_, map, List·Memᴰ·head, List·Memᴰ·tail}
 use lib.ListN.{length, length-append}
 use lib.Dec.{eqb, lit<, lit≤}
-use Rattle.lists.specs.Lists.{pick, _∈_, keep, total}
+use Rattle.lists.specs.Lists.{pick, _∈_, keep, each, total, listed, upTo}
 use Rattle.lists.proofs.Tests.{by-test}
 use Rattle.lists.proofs.Keep.{kept}
+use Rattle.lists.proofs.Listed.{listed-length}
+use Rattle.lists.proofs.Counted.{counted-below, total-ones, each-short}
 use Rattle.model.specs.declared.Found.{Found}
 use Rattle.model.specs.declared.Found.the-variants.{At, Nothing}
 use Rattle.model.specs.Least.{least, value, maxBelow, Says}
@@ -23,11 +24,10 @@ use Rattle.table.specs.declared.Verdict.{Verdict}
 use Rattle.table.specs.Verdicts.{codeOf, numberOf}
 use Rattle.table.specs.Memory.{rowOf, allTimes}
 use Rattle.analysis.specs.Analysis.{needed, named}
-use Rattle.sheet.specs.Text.{decimal, line, each}
-use Rattle.sheet.specs.Sheet.{boundLine, coreLine, fileLine, header, rowLines, linesOf, coreTextOf, coreText, goodText}
+use Rattle.text.specs.Text.{decimal, line}
+use Rattle.sheet.specs.Sheet.{boundLine, coreLine, fileLine, header, partLine, rowLines, coreTextOf, coreText, goodText}
 use Rattle.sheet.specs.Promises.{partsOn}
-use Rattle.sheet.proofs.Decimals.{decimal-short}
-use Rattle.sheet.proofs.Each.{each-short}
+use Rattle.text.proofs.Decimals.{decimal-short}
 use Rattle.sheet.proofs.CoreTexts.{parts-needed, said-is}
 
 -- ---- a bound is at most the limit
@@ -85,7 +85,8 @@ bound-short : (core id part bound deadline : ℕ) → core < 10 → id < 100000 
 unfolding boundLine
 bound-short core id part bound deadline c i p b d =
     rw (line-more (decimal core), line-more (decimal id), line-more (decimal part), line-more (decimal bound), line-last)
-    (omega (arith, decimal-short 0 core c, decimal-short 4 id i, decimal-short 1 part p, decimal-short 7 bound b, decimal-short 7 deadline d))
+    (omega
+    (arith, decimal-short 0 core c, decimal-short 4 id i, decimal-short 1 part p, decimal-short 7 bound b, decimal-short 7 deadline d))
 
 -- `core N code C number M`: a core's verdict carries an id
 core-line-short : (core : ℕ) (v : Verdict) → core < 10 → codeOf v < 100 → numberOf v < 100000 → length (coreLine core v) ≤ 28
@@ -111,21 +112,20 @@ AllGood ts = (u : Task) → u ∈ ts → GoodTask u
 row-short : (core : ℕ) (rows : List Task) (t : Task) → core ≤ 3 → GoodTask t → length (rowLines core rows t) ≤ parts t * 29
 unfolding rowLines
 row-short core rows t c g =
-    each-short _ 29 0 (parts t)
-    (λ r a h. bound-short core (t .id) (r + 1) (bound rows t r) (t .deadline) (omega arith) (omega (arith, g .id .most))
-    (omega (arith, g .count .most)) (omega (arith, bound-most rows t r)) (omega (arith, g .deadline .most)))
+    let short : (r : ℕ) → r < parts t → length (partLine core rows t r) ≤ 29
+    = λ r h. bound-short core (t .id) (r + 1) (bound rows t r) (t .deadline) (omega arith) (omega (arith, g .id .most))
+    (omega (arith, g .count .most)) (omega (arith, bound-most rows t r)) (omega (arith, g .deadline .most)) in
+    let all = each-short (partLine core rows t) (λ r. 1) 29 (upTo (parts t)) (λ r m. omega (arith, short r (counted-below (parts t) r m))) in
+    omega (arith, all, total-ones (upTo (parts t)), listed-length (λ (r : ℕ). r) (parts t))
 
 -- rows one after another
-lines-short : (core : ℕ) (rows ts : List Task) → core ≤ 3 → AllGood ts → length (linesOf core rows ts) ≤ needed ts * 29
-unfolding linesOf needed total
-lines-short core rows [] c g = omega arith
-lines-short core rows (t ∷ ts) c g =
-    let here = row-short core rows t c (g t (List·Memᴰ·head refl)) in
-    let others = lines-short core rows ts c (λ u m. g u (List·Memᴰ·tail m)) in
-    rw (length-append (rowLines core rows t) (linesOf core rows ts)) (omega (arith, add-mul (parts t) (total parts ts) 29))
+lines-short : (core : ℕ) (rows ts : List Task) → core ≤ 3 → AllGood ts → length (each (rowLines core rows) ts) ≤ needed ts * 29
+unfolding needed
+lines-short core rows ts c g = each-short (rowLines core rows) parts 29 ts (λ t m. row-short core rows t c (g t m))
 
 -- the task that a verdict names is one of the rows
-named-small : (rows : List Task) → AllGood rows → (v : CoreVerdict) → Judged rows v → (codeOf (named v) < 100) × (numberOf (named v) < 100000)
+named-small : (rows : List Task) → AllGood rows → (v : CoreVerdict) → Judged rows v
+    → (codeOf (named v) < 100) × (numberOf (named v) < 100000)
 unfolding named
 named-small rows g passes j = (lit< tt, lit< tt)
 named-small rows g (noWindow t) j = (lit< tt, omega (arith, g t (j .row) .id .most))
@@ -143,7 +143,7 @@ core-short tasks core c g =
     let lines = lines-short core rows rows c mine in
     rw (said-is core rows c)
     (by-test (eqb (codeOf v) 11) (λ e. rw e (omega arith))
-    (λ e. rw (e, length-append (linesOf core rows rows) (coreLine core v)) (omega arith)))
+    (λ e. rw (e, length-append (each (rowLines core rows) rows) (coreLine core v)) (omega arith)))
 
 -- ---- the whole
 
@@ -157,8 +157,8 @@ shares (suc (suc (suc (suc c)))) n h = absurd (omega arith)
 
 -- rows one after another
 rows-four : (ts : List Task) → AllGood ts
-    → total (partsOn 0) (map rowOf ts) + total (partsOn 1) (map rowOf ts) + total (partsOn 2) (map rowOf ts) + total (partsOn 3) (map rowOf ts)
-    ≤ length (allTimes ts)
+    → total (partsOn 0) (map rowOf ts) + total (partsOn 1) (map rowOf ts)
+    + total (partsOn 2) (map rowOf ts) + total (partsOn 3) (map rowOf ts) ≤ length (allTimes ts)
 unfolding total partsOn allTimes
 rows-four [] g = omega arith
 rows-four (t ∷ ts) g =
@@ -176,7 +176,7 @@ four ts g = omega (arith, parts-needed 0 ts, parts-needed 1 ts, parts-needed 2 t
 
 -- header 34, at most 1,024 lines of 29, four verdicts of 28
 pub good-short : (ts : List Task) → AllGood ts → length (allTimes ts) ≤ 1024 → length (goodText ts) ≤ 29842
-unfolding goodText each header line onFour
+unfolding goodText each listed header line onFour
 good-short ts g few =
     let c = coreText ts in
     let short : (core : ℕ) → core ≤ 3 → length (c core) ≤ needed (onCore core ts) * 29 + 28 = λ core h. core-short ts core h g in

@@ -1,4 +1,3 @@
-pub mod Text
 pub mod Sheet
 pub mod Promises
 pub mod Claims

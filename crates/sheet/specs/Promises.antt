@@ -1,25 +1,20 @@
--- How the text stands behind the functions on the way.
+-- Inner: how the text stands behind the functions on the way.
 use Prim.Native.Nat.{ℕ, _+_, _≤_}
 use mathlib.Core.List.{List, [], _∷_, _++_}
 use lib.ListN.{length, getD, take, drop}
 use lib.Dec.{eqb}
-use Rattle.lists.specs.Lists.{pick, total}
+use Rattle.lists.specs.Lists.{pick, each, total, upTo}
 use Rattle.table.specs.declared.Row.{Row}
 use Rattle.table.specs.declared.Table.{Table}
 use Rattle.table.specs.declared.Verdict.{Verdict}
 use Rattle.table.specs.Verdicts.{codeOf}
 use Rattle.table.specs.Memory.{usedRows}
-use Rattle.sheet.specs.Text.{each}
 use Rattle.sheet.specs.Sheet.{boundLine, coreLine}
-
--- text has room in lent bytes from a place on
-pub record Fits (text : List ℕ) (at : ℕ) (out : List ℕ) : Type 0 where
-  pub room : at + length text ≤ length out
 
 -- a row's lines, from its bounds in order
 unfoldable pub rowText : ℕ → Row → List ℕ → List ℕ
 rowText core row bounds =
-    each (λ r. boundLine core (row .id) (r + 1) (getD bounds r 0) (row .deadline)) 0 (length bounds)
+    each (λ r. boundLine core (row .id) (r + 1) (getD bounds r 0) (row .deadline)) (upTo (length bounds))
 
 -- how many bounds a row has on a core: none where it is on another
 unfoldable pub partsOn : ℕ → Row → ℕ
@@ -35,7 +30,7 @@ unfoldable pub coreBytes : ℕ → List Row → List ℕ → Verdict → List �
 coreBytes core rows bounds v = pick (eqb (codeOf v) 11) [] (rowsText core rows bounds) ++ coreLine core v
 
 -- so many bounds are enough for a core's rows, and no more than a table's times
-pub record Enough (core : ℕ) (t : Table) (bounds : ℕ) : Type 0 where
+pub record BoundsFor (core : ℕ) (t : Table) (bounds : ℕ) : Type 0 where
   pub rows : t .count ≤ 64
   pub parts : total (partsOn core) (usedRows t) ≤ bounds
   pub most : bounds ≤ 1024

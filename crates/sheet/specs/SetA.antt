@@ -2,6 +2,7 @@
 use Prim.Native.Nat.{ℕ}
 use mathlib.Core.Path.{_≡_}
 use mathlib.Core.List.{List, [], _∷_, _++_}
+use Rattle.lists.specs.Lists.{each}
 use Rattle.sheet.specs.Sheet.{sheetText}
 
 -- 03; 01 00 00 03 05 05 01 01; 02 00 01 02 0A 0A 02 01 02; 03 00 01 01 14 14 02 02 03
@@ -13,82 +14,37 @@ fileA =
     ∷ 3 ∷ 0 ∷ 1 ∷ 1 ∷ 20 ∷ 20 ∷ 2 ∷ 2 ∷ 3
     ∷ []
 
+-- "core" and a space
+abbrev coreA : List ℕ
+coreA = 99 ∷ 111 ∷ 114 ∷ 101 ∷ 32 ∷ []
+
 -- core task runnable bound deadline
 abbrev headerA : List ℕ
 headerA =
-    99 ∷ 111 ∷ 114 ∷ 101 ∷ 32
-    ∷ 116 ∷ 97 ∷ 115 ∷ 107 ∷ 32
+    coreA
+    ++ (116 ∷ 97 ∷ 115 ∷ 107 ∷ 32
     ∷ 114 ∷ 117 ∷ 110 ∷ 110 ∷ 97 ∷ 98 ∷ 108 ∷ 101 ∷ 32
     ∷ 98 ∷ 111 ∷ 117 ∷ 110 ∷ 100 ∷ 32
     ∷ 100 ∷ 101 ∷ 97 ∷ 100 ∷ 108 ∷ 105 ∷ 110 ∷ 101 ∷ 10
+    ∷ [])
+
+-- 0 1 1 1 5; 0 2 1 5 10; 0 2 2 8 10; 0 3 1 7 20; 0 3 2 10 20
+abbrev boundsA : List ℕ
+boundsA =
+    48 ∷ 32 ∷ 49 ∷ 32 ∷ 49 ∷ 32 ∷ 49 ∷ 32 ∷ 53 ∷ 10
+    ∷ 48 ∷ 32 ∷ 50 ∷ 32 ∷ 49 ∷ 32 ∷ 53 ∷ 32 ∷ 49 ∷ 48 ∷ 10
+    ∷ 48 ∷ 32 ∷ 50 ∷ 32 ∷ 50 ∷ 32 ∷ 56 ∷ 32 ∷ 49 ∷ 48 ∷ 10
+    ∷ 48 ∷ 32 ∷ 51 ∷ 32 ∷ 49 ∷ 32 ∷ 55 ∷ 32 ∷ 50 ∷ 48 ∷ 10
+    ∷ 48 ∷ 32 ∷ 51 ∷ 32 ∷ 50 ∷ 32 ∷ 49 ∷ 48 ∷ 32 ∷ 50 ∷ 48 ∷ 10
     ∷ []
 
--- 0 1 1 1 5
-abbrev a11 : List ℕ
-a11 = 48 ∷ 32 ∷ 49 ∷ 32 ∷ 49 ∷ 32 ∷ 49 ∷ 32 ∷ 53 ∷ 10 ∷ []
+-- core D code 0 number 0, with the digit D
+abbrev verdictA : ℕ → List ℕ
+verdictA d = coreA ++ (d ∷ 32 ∷ 99 ∷ 111 ∷ 100 ∷ 101 ∷ 32 ∷ 48 ∷ 32 ∷ 110 ∷ 117 ∷ 109 ∷ 98 ∷ 101 ∷ 114 ∷ 32 ∷ 48 ∷ 10 ∷ [])
 
--- 0 2 1 5 10
-abbrev a21 : List ℕ
-a21 = 48 ∷ 32 ∷ 50 ∷ 32 ∷ 49 ∷ 32 ∷ 53 ∷ 32 ∷ 49 ∷ 48 ∷ 10 ∷ []
-
--- 0 2 2 8 10
-abbrev a22 : List ℕ
-a22 = 48 ∷ 32 ∷ 50 ∷ 32 ∷ 50 ∷ 32 ∷ 56 ∷ 32 ∷ 49 ∷ 48 ∷ 10 ∷ []
-
--- 0 3 1 7 20
-abbrev a31 : List ℕ
-a31 = 48 ∷ 32 ∷ 51 ∷ 32 ∷ 49 ∷ 32 ∷ 55 ∷ 32 ∷ 50 ∷ 48 ∷ 10 ∷ []
-
--- 0 3 2 10 20
-abbrev a32 : List ℕ
-a32 = 48 ∷ 32 ∷ 51 ∷ 32 ∷ 50 ∷ 32 ∷ 49 ∷ 48 ∷ 32 ∷ 50 ∷ 48 ∷ 10 ∷ []
-
--- core 0 code 0 number 0
-abbrev core0 : List ℕ
-core0 =
-    99 ∷ 111 ∷ 114 ∷ 101 ∷ 32
-    ∷ 48 ∷ 32
-    ∷ 99 ∷ 111 ∷ 100 ∷ 101 ∷ 32
-    ∷ 48 ∷ 32
-    ∷ 110 ∷ 117 ∷ 109 ∷ 98 ∷ 101 ∷ 114 ∷ 32
-    ∷ 48 ∷ 10
-    ∷ []
-
--- core 1 code 0 number 0
-abbrev core1 : List ℕ
-core1 =
-    99 ∷ 111 ∷ 114 ∷ 101 ∷ 32
-    ∷ 49 ∷ 32
-    ∷ 99 ∷ 111 ∷ 100 ∷ 101 ∷ 32
-    ∷ 48 ∷ 32
-    ∷ 110 ∷ 117 ∷ 109 ∷ 98 ∷ 101 ∷ 114 ∷ 32
-    ∷ 48 ∷ 10
-    ∷ []
-
--- core 2 code 0 number 0
-abbrev core2 : List ℕ
-core2 =
-    99 ∷ 111 ∷ 114 ∷ 101 ∷ 32
-    ∷ 50 ∷ 32
-    ∷ 99 ∷ 111 ∷ 100 ∷ 101 ∷ 32
-    ∷ 48 ∷ 32
-    ∷ 110 ∷ 117 ∷ 109 ∷ 98 ∷ 101 ∷ 114 ∷ 32
-    ∷ 48 ∷ 10
-    ∷ []
-
--- core 3 code 0 number 0
-abbrev core3 : List ℕ
-core3 =
-    99 ∷ 111 ∷ 114 ∷ 101 ∷ 32
-    ∷ 51 ∷ 32
-    ∷ 99 ∷ 111 ∷ 100 ∷ 101 ∷ 32
-    ∷ 48 ∷ 32
-    ∷ 110 ∷ 117 ∷ 109 ∷ 98 ∷ 101 ∷ 114 ∷ 32
-    ∷ 48 ∷ 10
-    ∷ []
-
+-- the digits are 0 to 3
 abbrev pub reportA : List ℕ
-reportA = headerA ++ (a11 ++ (a21 ++ (a22 ++ (a31 ++ (a32 ++ (core0 ++ (core1 ++ (core2 ++ core3))))))))
+reportA = headerA ++ (boundsA ++ each verdictA (48 ∷ 49 ∷ 50 ∷ 51 ∷ []))
 
 -- the printed bytes are these
 abbrev pub SetAReport : Type 0

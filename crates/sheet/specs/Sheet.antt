@@ -2,9 +2,9 @@
 use Prim.Native.Nat.{ℕ, _+_}
 use mathlib.Core.Path.{_≡_}
 use mathlib.Core.List.{List, [], _∷_, _++_, map}
-use lib.ListN.{length, drop}
+use lib.ListN.{length}
 use lib.Dec.{eqb, ltb}
-use Rattle.lists.specs.Lists.{pick}
+use Rattle.lists.specs.Lists.{pick, each, over, upTo}
 use Rattle.model.specs.Task.{Task, parts}
 use Rattle.model.specs.Bounds.{onCore, bound}
 use Rattle.table.specs.declared.Verdict.{Verdict}
@@ -13,7 +13,7 @@ use Rattle.table.specs.Verdicts.{codeOf, numberOf}
 use Rattle.files.specs.Reading.{Step, stop, go, decode}
 use Rattle.analysis.specs.Analysis.{needed, coreSaid}
 use Rattle.sheet.specs.declared.Printed.{Printed}
-use Rattle.sheet.specs.Text.{decimal, line, each}
+use Rattle.text.specs.Text.{decimal, line}
 
 -- "core"
 abbrev pub coreWord : List ℕ
@@ -67,26 +67,28 @@ coreLine core v = line (coreWord ∷ decimal core ∷ verdictWords v)
 unfoldable pub fileLine : Verdict → List ℕ
 fileLine v = line (fileWord ∷ verdictWords v)
 
--- the lines of one row among the rows of its core: a line for each part
-unfoldable pub rowLines : ℕ → List Task → Task → List ℕ
-rowLines core rows t = each (λ r. boundLine core (t .id) (r + 1) (bound rows t r) (t .deadline)) 0 (parts t)
+-- the line of part r of a row among the rows of its core
+abbrev pub partLine : ℕ → List Task → Task → ℕ → List ℕ
+partLine core rows t r = boundLine core (t .id) (r + 1) (bound rows t r) (t .deadline)
 
--- the lines of some of them, in row order
-unfoldable pub linesOf : ℕ → List Task → List Task → List ℕ
-linesOf core rows [] = []
-linesOf core rows (t ∷ ts) = rowLines core rows t ++ linesOf core rows ts
+-- a line for each part
+unfoldable pub rowLines : ℕ → List Task → Task → List ℕ
+rowLines core rows t = each (partLine core rows t) (upTo (parts t))
 
 -- a core whose rows got this verdict: with code 11 only the verdict
 unfoldable pub coreTextOf : ℕ → List Task → Verdict → List ℕ
-coreTextOf core rows v = pick (eqb (codeOf v) 11) [] (linesOf core rows rows) ++ coreLine core v
+coreTextOf core rows v = pick (eqb (codeOf v) 11) [] (each (rowLines core rows) rows) ++ coreLine core v
 
--- with room for every bound, so that code 10 never occurs
+-- what is said of a core, with room for every bound, so that code 10 never occurs
+abbrev pub saidOf : List Task → ℕ → Verdict
+saidOf tasks core = coreSaid core (onCore core tasks) (needed (onCore core tasks))
+
 unfoldable pub coreText : List Task → ℕ → List ℕ
-coreText tasks core = coreTextOf core (onCore core tasks) (coreSaid core (onCore core tasks) (needed (onCore core tasks)))
+coreText tasks core = coreTextOf core (onCore core tasks) (saidOf tasks core)
 
 -- the header, then the cores 0 to 3
 unfoldable pub goodText : List Task → List ℕ
-goodText tasks = header ++ each (coreText tasks) 0 4
+goodText tasks = header ++ each (coreText tasks) (upTo 4)
 
 unfoldable pub textOf : Step (List Task) → List ℕ
 textOf (stop v) = fileLine v
@@ -102,7 +104,7 @@ printAnswer text room =
     pick (ltb room (length text)) (record { verdict = NoRoom (length text); count = 0 }) (record { verdict = Good; count = length text })
 
 unfoldable pub printed : List ℕ → List ℕ → List ℕ
-printed text out = pick (ltb (length out) (length text)) out (text ++ drop (length text) out)
+printed text out = pick (ltb (length out) (length text)) out (over text out)
 
 -- what printing a file's sheet into lent bytes gives: the answer and every byte
 pub record Prints (s out : List ℕ) (r : Printed) (out′ : List ℕ) : Type 0 where

@@ -1,15 +1,14 @@
 ghost use Prim.Native.Nat.{_+_, _<_, _≤_};
 ghost use mathlib.Core.Path.{_≡_};
-ghost use mathlib.Core.List.{[], _∷_, _++_, map};
 ghost use lib.ListN.{length};
 ghost use Rattle.table.specs.Verdicts.{codeOf};
 ghost use Rattle.table.specs.Memory.{usedRows, tasksOf};
 ghost use Rattle.table.specs.Faults.{faultOf};
-ghost use Rattle.files.specs.Promises.{PutAt};
-ghost use Rattle.sheet.specs.Text.{decimal, line};
+ghost use Rattle.text.specs.Text.{line};
+ghost use Rattle.text.specs.Promises.{Fits, PutAt};
 ghost use Rattle.sheet.specs.Sheet.{verdictWords, boundLine, coreLine, fileLine};
 ghost use Rattle.sheet.specs.Sheet.{coreText, goodText, sheetText, Prints};
-ghost use Rattle.sheet.specs.Promises.{Fits, Enough, rowText, partsOn, rowsText, coreBytes};
+ghost use Rattle.sheet.specs.Promises.{BoundsFor, rowText, partsOn, rowsText, coreBytes};
 use table::Row;
 use table::Table;
 use table::Verdict;
@@ -20,56 +19,6 @@ pub struct Printed {
     pub count: usize,
 }
 
-// Writes bytes at `at` and on; where they end.
-fn put_bytes(out: &mut [u8], at: usize, bytes: &[u8]) -> usize
-    requires { ⌜ Fits (now bytes) at (now out) ⌝ }
-    ensures { λ r. ⌜ PutAt (now (bytes .entry)) at (now (out .entry)) r (now (out .exit)) ⌝ }
-{
-    let mut p = at;
-    let mut i = 0;
-    while i < bytes.len() {
-        out[p] = bytes[i];
-        p += 1;
-        i += 1;
-    }
-    p
-}
-
-// Writes a word and the byte that follows it.
-fn put_word(out: &mut [u8], at: usize, word: &[u8], end: u8) -> usize
-    requires { ⌜ Fits (now word ++ (end ∷ [])) at (now out) ⌝ }
-    ensures { λ r. ⌜ PutAt (now (word .entry) ++ (end ∷ [])) at (now (out .entry)) r (now (out .exit)) ⌝ }
-{
-    let p = put_bytes(out, at, word);
-    out[p] = end;
-    p + 1
-}
-
-// Writes a number in decimal and the byte that follows it.
-fn put_decimal(out: &mut [u8], at: usize, v: usize, end: u8) -> usize
-    requires { ⌜ Fits (decimal v ++ (end ∷ [])) at (now out) ⌝ }
-    ensures { λ r. ⌜ PutAt (decimal v ++ (end ∷ [])) at (now (out .entry)) r (now (out .exit)) ⌝ }
-{
-    let mut digits = [0u8; 20];
-    let n = io::decimal(v as u64, &mut digits);
-    put_word(out, at, &digits[..n], end)
-}
-
-// Writes numbers as a line.
-fn put_numbers(out: &mut [u8], at: usize, numbers: &[u32]) -> usize
-    requires { ⌜ (0 < length (now numbers)) × Fits (line (map decimal (now numbers))) at (now out) ⌝ }
-    ensures { λ r. ⌜ PutAt (line (map decimal (now (numbers .entry)))) at (now (out .entry)) r (now (out .exit)) ⌝ }
-{
-    let last = numbers.len() - 1;
-    let mut p = at;
-    let mut i = 0;
-    while i < last {
-        p = put_decimal(out, p, numbers[i] as usize, b' ');
-        i += 1;
-    }
-    put_decimal(out, p, numbers[last] as usize, b'\n')
-}
-
 // Writes the end of a verdict line: `code C number N`.
 fn put_verdict(out: &mut [u8], at: usize, v: Verdict) -> usize
     requires { ⌜ Fits (line (verdictWords v)) at (now out) ⌝ }
@@ -77,10 +26,10 @@ fn put_verdict(out: &mut [u8], at: usize, v: Verdict) -> usize
 {
     let code = table::code_of(v);
     let number = table::number_of(v);
-    let p = put_word(out, at, b"code", b' ');
-    let q = put_decimal(out, p, code as usize, b' ');
-    let s = put_word(out, q, b"number", b' ');
-    put_decimal(out, s, number, b'\n')
+    let p = text::put_word(out, at, b"code", b' ');
+    let q = text::put_decimal(out, p, code as usize, b' ');
+    let s = text::put_word(out, q, b"number", b' ');
+    text::put_decimal(out, s, number, b'\n')
 }
 
 // Writes the line of one bound, part `r` of a row counted from 0.
@@ -89,7 +38,7 @@ fn put_bound(out: &mut [u8], at: usize, core: u32, row: Row, r: u32, bound: u32)
     ensures { λ n. ⌜ PutAt (boundLine core (row .id) (r + 1) bound (row .deadline)) at (now (out .entry)) n (now (out .exit)) ⌝ }
 {
     let numbers = [core, row.id, r + 1, bound, row.deadline];
-    put_numbers(out, at, &numbers)
+    text::put_numbers(out, at, &numbers)
 }
 
 // Writes the lines of a row, one for each of its bounds.
@@ -118,7 +67,7 @@ fn parts_on(core: u32, row: Row) -> usize
 
 // Writes the lines of a core, from the table and the core's bounds.
 fn put_rows(out: &mut [u8], at: usize, core: u32, t: Table, bounds: &[u32]) -> usize
-    requires { ⌜ Enough core t (length (now bounds)) × Fits (rowsText core (usedRows t) (now bounds)) at (now out) ⌝ }
+    requires { ⌜ BoundsFor core t (length (now bounds)) × Fits (rowsText core (usedRows t) (now bounds)) at (now out) ⌝ }
     ensures { λ r. ⌜ PutAt (rowsText core (usedRows t) (now (bounds .entry))) at (now (out .entry)) r (now (out .exit)) ⌝ }
 {
     let n = t.count;
@@ -140,8 +89,8 @@ fn put_core_line(out: &mut [u8], at: usize, core: u32, v: Verdict) -> usize
     requires { ⌜ Fits (coreLine core v) at (now out) ⌝ }
     ensures { λ r. ⌜ PutAt (coreLine core v) at (now (out .entry)) r (now (out .exit)) ⌝ }
 {
-    let p = put_word(out, at, b"core", b' ');
-    let q = put_decimal(out, p, core as usize, b' ');
+    let p = text::put_word(out, at, b"core", b' ');
+    let q = text::put_decimal(out, p, core as usize, b' ');
     put_verdict(out, q, v)
 }
 
@@ -150,13 +99,13 @@ fn put_file_line(out: &mut [u8], v: Verdict) -> usize
     requires { ⌜ Fits (fileLine v) 0 (now out) ⌝ }
     ensures { λ r. ⌜ PutAt (fileLine v) 0 (now (out .entry)) r (now (out .exit)) ⌝ }
 {
-    let p = put_word(out, 0, b"file", b' ');
+    let p = text::put_word(out, 0, b"file", b' ');
     put_verdict(out, p, v)
 }
 
 // Writes what is said of a core: with code 11 only the verdict.
 fn put_core(out: &mut [u8], at: usize, core: u32, t: Table, v: Verdict, bounds: &[u32]) -> usize
-    requires { ⌜ Enough core t (length (now bounds)) × Fits (coreBytes core (usedRows t) (now bounds) v) at (now out) ⌝ }
+    requires { ⌜ BoundsFor core t (length (now bounds)) × Fits (coreBytes core (usedRows t) (now bounds) v) at (now out) ⌝ }
     ensures { λ r. ⌜ PutAt (coreBytes core (usedRows t) (now (bounds .entry)) v) at (now (out .entry)) r (now (out .exit)) ⌝ }
 {
     if table::code_of(v) == 11 {
@@ -182,7 +131,7 @@ fn put_cores(out: &mut [u8], t: Table) -> usize
     requires { ⌜ (codeOf (faultOf t) ≡ 0) × Fits (goodText (tasksOf t)) 0 (now out) ⌝ }
     ensures { λ r. ⌜ PutAt (goodText (tasksOf t)) 0 (now (out .entry)) r (now (out .exit)) ⌝ }
 {
-    let mut p = put_word(out, 0, b"core task runnable bound deadline", b'\n');
+    let mut p = text::put_word(out, 0, b"core task runnable bound deadline", b'\n');
     let mut core: u32 = 0;
     while core < 4 {
         p = put_analysed(out, p, core, t);
@@ -216,7 +165,7 @@ pub fn sheet(bytes: &[u8], out: &mut [u8]) -> Printed
             count: 0,
         };
     }
-    put_bytes(out, 0, &text[..n]);
+    text::put_bytes(out, 0, &text[..n]);
     Printed {
         verdict: Verdict::Good,
         count: n,

@@ -1,9 +1,9 @@
 -- `sheet::put_core_line` meets its contract. Assumes nothing.
 use borrow.Author.Needs.{needs}
-use Rattle.sheet.specs.Text.{decimal}
+use Rattle.text.specs.Text.{decimal}
 use Rattle.sheet.specs.Sheet.{coreWord, coreLine}
-use Rattle.sheet.proofs.Puts.{starts, last}
-use Rattle.sheet.proofs.Lines.{word-room, word-turn}
+use Rattle.text.proofs.Puts.{starts, last}
+use Rattle.text.proofs.Lines.{word-room, word-turn}
 use Rattle.sheet.proofs.put_core_line.Statement.{statement}
 use Rattle.sheet.proofs.put_core_line.Tie as tie
 

@@ -4,22 +4,23 @@ use native.Mathlib.Omega.{arith}
 use borrow.Author.Needs.{needs}
 use mathlib.Core.Path.{_≡_, refl}
 use mathlib.Core.List.{List}
+use lib.ListN.{drop}
 use Rattle.table.specs.declared.Table.{Table}
 use Rattle.table.specs.Verdicts.{codeOf}
 use Rattle.table.specs.Memory.{tasksOf}
 use Rattle.table.specs.Faults.{faultOf}
-use Rattle.files.specs.Promises.{PutAt}
-use Rattle.sheet.specs.Text.{line, each}
+use Rattle.text.specs.Text.{line}
+use Rattle.lists.specs.Lists.{each, upTo}
 use Rattle.sheet.specs.Sheet.{header, coreText, goodText}
-use Rattle.sheet.specs.Promises.{Fits}
-use Rattle.sheet.proofs.Puts.{Putting, starts, room, turn, ends, last}
-use Rattle.sheet.proofs.Each.{each-more, each-none}
+use Rattle.text.specs.Promises.{Fits, PutAt}
+use Rattle.text.proofs.Puts.{Putting, starts, room, turn, ends, last}
+use Rattle.lists.proofs.Counted.{each-more, each-none}
 use Rattle.sheet.proofs.put_cores.Statement.{statement}
 use Rattle.sheet.proofs.put_cores.Tie as tie
 
 -- the cores' texts, from where the header ends
 abbrev cores : Table → ℕ → List ℕ
-cores t core = each (coreText (tasksOf t)) core (4 - core)
+cores t core = each (coreText (tasksOf t)) (drop core (upTo 4))
 
 record Cores (t : Table) (out₀ : List ℕ) (p₀ : ℕ) (out : List ℕ) (p core : ℕ) : Type 0 where
   fine : codeOf (faultOf t) ≡ 0
@@ -49,19 +50,19 @@ module _ {t : Table} {out₀ : List ℕ} {p₀ : ℕ} {out : List ℕ} {p core :
   module _ (h : core < 4) where
     -- the next core has room
     fits : Fits (coreText (tasksOf t) core) p out
-    fits = room (k .putting) (coreText (tasksOf t) core) _ (each-more (coreText (tasksOf t)) core 4 h)
+    fits = room (k .putting) (coreText (tasksOf t) core) _ (each-more (coreText (tasksOf t)) 4 core h)
 
     -- one core more
     step : {q : ℕ} {out′ : List ℕ} → PutAt (coreText (tasksOf t) core) p out q out′ → Cores t out₀ p₀ out′ q (core + 1)
     step put =
         record {
           fine = k .fine;
-          putting = turn (k .putting) (coreText (tasksOf t) core) _ (each-more (coreText (tasksOf t)) core 4 h) put;
+          putting = turn (k .putting) (coreText (tasksOf t) core) _ (each-more (coreText (tasksOf t)) 4 core h) put;
         }
 
   -- all cores
   done : 4 ≤ core → PutAt (cores t 0) p₀ out₀ p out
-  done h = ends (k .putting) (each-none (coreText (tasksOf t)) core 4 h)
+  done h = ends (k .putting) (each-none (coreText (tasksOf t)) 4 core h)
 
 abbrev Inv-loop : tie.InvT-loop
 Inv-loop out₀ t p₀ core₀ out p core = Cores t out₀ p₀ out p core

@@ -1,8 +1,8 @@
 -- `sheet::put_file_line` meets its contract. Assumes nothing.
 use borrow.Author.Needs.{needs}
 use Rattle.sheet.specs.Sheet.{fileWord, fileLine}
-use Rattle.sheet.proofs.Puts.{starts, last}
-use Rattle.sheet.proofs.Lines.{word-room, word-turn}
+use Rattle.text.proofs.Puts.{starts, last}
+use Rattle.text.proofs.Lines.{word-room, word-turn}
 use Rattle.sheet.proofs.put_file_line.Statement.{statement}
 use Rattle.sheet.proofs.put_file_line.Tie as tie
 

@@ -1,17 +1,16 @@
 -- `sheet::put_row` meets its contract: a line for each bound. Assumes nothing.
 use Prim.Native.Nat.{ℕ, _+_, _-_, _≤_, _<_}
-use native.Mathlib.Nat.{sub-zero}
 use native.Mathlib.Omega.{arith}
 use borrow.Author.Needs.{needs}
 use mathlib.Core.List.{List}
-use lib.ListN.{length, getD}
+use lib.ListN.{length, getD, drop}
 use Rattle.table.specs.declared.Row.{Row}
-use Rattle.files.specs.Promises.{PutAt}
-use Rattle.sheet.specs.Text.{each}
+use Rattle.lists.specs.Lists.{each, upTo}
 use Rattle.sheet.specs.Sheet.{boundLine}
-use Rattle.sheet.specs.Promises.{Fits, rowText}
-use Rattle.sheet.proofs.Puts.{Putting, starts, room, turn, ends}
-use Rattle.sheet.proofs.Each.{each-more, each-none}
+use Rattle.text.specs.Promises.{Fits, PutAt}
+use Rattle.sheet.specs.Promises.{rowText}
+use Rattle.text.proofs.Puts.{Putting, starts, room, turn, ends}
+use Rattle.lists.proofs.Counted.{each-more, each-none}
 use Rattle.sheet.proofs.put_row.Statement.{statement}
 use Rattle.sheet.proofs.put_row.Tie as tie
 
@@ -22,19 +21,19 @@ bound-at core row bounds r = boundLine core (row .id) (r + 1) (getD bounds r 0) 
 record Lines (core : ℕ) (row : Row) (bounds out₀ : List ℕ) (at : ℕ) (out : List ℕ) (p r : ℕ) : Type 0 where
   few : length bounds ≤ 1024
   upto : r ≤ length bounds
-  putting : Putting (rowText core row bounds) out₀ at out p (each (bound-at core row bounds) r (length bounds - r))
+  putting : Putting (rowText core row bounds) out₀ at out p (each (bound-at core row bounds) (drop r (upTo (length bounds))))
 
 -- at first all lines are left
 begins : (core : ℕ) (row : Row) (bounds out : List ℕ) (at : ℕ) → length bounds ≤ 1024 → Fits (rowText core row bounds) at out
     → Lines core row bounds out at out at 0
 unfolding rowText bound-at
-begins core row bounds out at few h = record { few = few; upto = omega arith; putting = rw sub-zero (starts _ out at h) }
+begins core row bounds out at few h = record { few = few; upto = omega arith; putting = starts _ out at h }
 
 module _ {core : ℕ} {row : Row} {bounds out₀ : List ℕ} {at : ℕ} {out : List ℕ} {p r : ℕ} (l : Lines core row bounds out₀ at out p r) where
   module _ (h : r < length bounds) where
     -- the next line has room
     fits : Fits (bound-at core row bounds r) p out
-    fits = room (l .putting) (bound-at core row bounds r) _ (each-more (bound-at core row bounds) r (length bounds) h)
+    fits = room (l .putting) (bound-at core row bounds r) _ (each-more (bound-at core row bounds) (length bounds) r h)
 
     -- one line more
     step : {q : ℕ} {out′ : List ℕ} → PutAt (bound-at core row bounds r) p out q out′ → Lines core row bounds out₀ at out′ q (r + 1)
@@ -42,12 +41,12 @@ module _ {core : ℕ} {row : Row} {bounds out₀ : List ℕ} {at : ℕ} {out : L
         record {
           few = l .few;
           upto = omega arith;
-          putting = turn (l .putting) (bound-at core row bounds r) _ (each-more (bound-at core row bounds) r (length bounds) h) put;
+          putting = turn (l .putting) (bound-at core row bounds r) _ (each-more (bound-at core row bounds) (length bounds) r h) put;
         }
 
   -- all lines
   done : length bounds ≤ r → PutAt (rowText core row bounds) at out₀ p out
-  done h = ends (l .putting) (each-none (bound-at core row bounds) r (length bounds) h)
+  done h = ends (l .putting) (each-none (bound-at core row bounds) (length bounds) r h)
 
 abbrev Inv-loop : tie.InvT-loop
 Inv-loop out₀ at core row bounds p₀ r₀ out p r = Lines core row bounds out₀ at out p r

@@ -12,9 +12,9 @@ use Rattle.table.specs.declared.Row.{Row}
 use Rattle.table.specs.declared.Table.{Table}
 use Rattle.table.specs.Memory.{zeroRow, usedRows}
 use Rattle.table.proofs.Rows.{length-mapped, used-more}
-use Rattle.files.specs.Promises.{PutAt}
-use Rattle.sheet.specs.Promises.{Fits, Enough, rowText, partsOn, rowsText}
-use Rattle.sheet.proofs.Puts.{Putting, starts, room, turn, ends}
+use Rattle.text.specs.Promises.{Fits, PutAt}
+use Rattle.sheet.specs.Promises.{BoundsFor, rowText, partsOn, rowsText}
+use Rattle.text.proofs.Puts.{Putting, starts, room, turn, ends}
 use Rattle.sheet.proofs.put_rows.Statement.{statement}
 use Rattle.sheet.proofs.put_rows.Tie as tie
 
@@ -26,7 +26,7 @@ record Rows (core : ℕ) (t : Table) (bounds out₀ : List ℕ) (at : ℕ) (out 
   putting : Putting (rowsText core (usedRows t) bounds) out₀ at out p (rowsText core (drop i (usedRows t)) (drop used bounds))
 
 -- at first all rows are left
-begins : (core : ℕ) (t : Table) (bounds out : List ℕ) (at : ℕ) → length (t .rows) ≡ 64 → Enough core t (length bounds)
+begins : (core : ℕ) (t : Table) (bounds out : List ℕ) (at : ℕ) → length (t .rows) ≡ 64 → BoundsFor core t (length bounds)
     → Fits (rowsText core (usedRows t) bounds) at out → Rows core t bounds out at out at 0 0
 begins core t bounds out at long e h =
     record {
@@ -37,7 +37,8 @@ begins core t bounds out at long e h =
       putting = starts _ out at h;
     }
 
-module _ {core : ℕ} {t : Table} {bounds out₀ : List ℕ} {at : ℕ} {out : List ℕ} {p used i : ℕ} (k : Rows core t bounds out₀ at out p used i) where
+module _ {core : ℕ} {t : Table} {bounds out₀ : List ℕ} {at : ℕ} {out : List ℕ} {p used i : ℕ}
+    (k : Rows core t bounds out₀ at out p used i) where
   module _ (h : i < t .count) (n : ℕ) (e : n ≡ partsOn core (getD (t .rows) i zeroRow)) where
     -- the next row
     row : Row

@@ -9,12 +9,11 @@ use Rattle.numbers.specs.Numbers.{Bytes}
 use Rattle.table.specs.Verdicts.{codeOf}
 use Rattle.table.specs.Memory.{tasksOf}
 use Rattle.table.specs.Faults.{faultOf}
-use Rattle.files.specs.Promises.{PutAt}
 use Rattle.files.specs.declared.Loaded.{Loaded}
 use Rattle.files.specs.Reading.{readAnswer}
 use Rattle.sheet.specs.Sheet.{fileLine, goodText, sheetText}
-use Rattle.sheet.specs.Promises.{Fits}
-use Rattle.sheet.proofs.Files.{refused-text, good-text, text-is-short}
+use Rattle.text.specs.Promises.{Fits, PutAt}
+use Rattle.sheet.proofs.Files.{refused-text, good-text, good-table, text-is-short}
 use Rattle.sheet.proofs.put_sheet.Statement.{statement}
 use Rattle.sheet.proofs.put_sheet.Tie as tie
 
@@ -42,15 +41,15 @@ module _ {s : List ℕ} {l : Loaded} (r : Read s l) where
     module _ (zero : k ≡ 0) where
       -- a good file: its table has no fault
       fine : codeOf (faultOf (l .table)) ≡ 0
-      fine = good-text s (r .bytes) l (r .same) (sym code ∙ zero) .fine
+      fine = good-table s l (r .same) (sym code ∙ zero)
 
       -- its cores have room
       cores-fit : {out : List ℕ} → 29842 ≤ length out → Fits (goodText (tasksOf (l .table))) 0 out
-      cores-fit {out} h = rw (good-text s (r .bytes) l (r .same) (sym code ∙ zero) .text) at (fits {out = out} h)
+      cores-fit {out} h = rw (good-text s l (r .same) (sym code ∙ zero)) at (fits {out = out} h)
 
       -- and are the text
       cores-put : {q : ℕ} {out out′ : List ℕ} → PutAt (goodText (tasksOf (l .table))) 0 out q out′ → PutAt (sheetText s) 0 out q out′
-      cores-put put = rw (good-text s (r .bytes) l (r .same) (sym code ∙ zero) .text) put
+      cores-put put = rw (good-text s l (r .same) (sym code ∙ zero)) put
 
 -- what is known once the file is read
 read-of : (c : tie.After-read) → Read (c .before .before .before .args .bytes .now) (c .read .result)

@@ -1,9 +1,9 @@
 -- `sheet::put_verdict` meets its contract: two words, each with its number. Assumes nothing.
 use borrow.Author.Needs.{needs}
-use Rattle.sheet.specs.Text.{decimal}
+use Rattle.text.specs.Text.{decimal}
 use Rattle.sheet.specs.Sheet.{codeWord, numberWord}
-use Rattle.sheet.proofs.Puts.{starts}
-use Rattle.sheet.proofs.Lines.{word-room, word-turn, end-room, end-put}
+use Rattle.text.proofs.Puts.{starts}
+use Rattle.text.proofs.Lines.{word-room, word-turn, end-room, end-put}
 use Rattle.sheet.proofs.put_verdict.Statement.{statement}
 use Rattle.sheet.proofs.put_verdict.Tie as tie
 

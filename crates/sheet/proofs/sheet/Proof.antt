@@ -1,19 +1,18 @@
 -- `sheet::sheet` meets its contract: the text is worked out in room that is always enough, and copied where it fits. Assumes nothing.
 use Prim.Native.Nat.{ℕ, _+_, _≤_, _<_, _^_}
-use native.Mathlib.Nat.{zero-add}
 use native.Mathlib.Omega.{arith}
 use borrow.Author.Needs.{needs}
 use borrow.Author.Tests.{lt-ltb, le-ltb}
 use mathlib.Core.Path.{_≡_, sym, ap, _∙_}
 use mathlib.Core.List.{List}
 use lib.ListN.{length, take}
-use lib.Seq.{sets, sets-eq, length-sets, length-take-le}
+use lib.Seq.{sets, length-sets, length-take-le}
+use Rattle.lists.proofs.Overs.{over-sets}
 use Rattle.lists.proofs.Stores.{take-sets}
 use Rattle.numbers.specs.Numbers.{Bytes}
 use Rattle.table.specs.declared.Verdict.the-variants.{Good, NoRoom}
-use Rattle.files.specs.Promises.{PutAt}
 use Rattle.sheet.specs.Sheet.{sheetText, printAnswer, printed, Prints}
-use Rattle.sheet.specs.Promises.{Fits}
+use Rattle.text.specs.Promises.{Fits, PutAt}
 use Rattle.sheet.proofs.Files.{text-is-short}
 use Rattle.sheet.proofs.sheet.Statement.{statement}
 use Rattle.sheet.proofs.sheet.Tie as tie
@@ -25,8 +24,8 @@ record Worked (s : List ℕ) (n : ℕ) (room : List ℕ) : Type 0 where
   front : take n room ≡ sheetText s
 
 -- the room is enough for any text
-worked : {s : List ℕ} → Bytes s → length s < 2 ^ 64 → {n : ℕ} {room₀ room : List ℕ} → 29842 ≤ length room₀ → PutAt (sheetText s) 0 room₀ n room
-    → Worked s n room
+worked : {s : List ℕ} → Bytes s → length s < 2 ^ 64 → {n : ℕ} {room₀ room : List ℕ} → 29842 ≤ length room₀
+    → PutAt (sheetText s) 0 room₀ n room → Worked s n room
 worked {s} bs few {n} {room₀} {room} long put =
     let fits : 0 + length (sheetText s) ≤ length room₀ = omega (arith, text-is-short s bs few) in
     let same : length room ≡ length room₀ = ap length (put .stored) ∙ length-sets room₀ 0 (sheetText s) in
@@ -47,20 +46,23 @@ module _ {s : List ℕ} {n : ℕ} {room : List ℕ} (w : Worked s n room) {out :
   fits h = record { room = rw (w .front) (omega (arith, w .size)) }
 
   -- and is what must be printed
-  done : n ≤ length out → {q : ℕ} {out′ : List ℕ} → PutAt (take n room) 0 out q out′ → Prints s out (record { verdict = Good; count = n }) out′
+  done : n ≤ length out → {q : ℕ} {out′ : List ℕ} → PutAt (take n room) 0 out q out′
+      → Prints s out (record { verdict = Good; count = n }) out′
   unfolding printAnswer printed
   done h {q} {out′} put =
       let text : out′ ≡ sets out 0 (sheetText s) = put .stored ∙ ap (sets out 0) (w .front) in
-      let fit : 0 + length (sheetText s) ≤ length out = omega (arith, w .size) in
+      let fit : length (sheetText s) ≤ length out = omega (arith, w .size) in
       record {
         answer = rw (w .size, le-ltb (length out) n h);
-        bytes = text ∙ sets-eq (sheetText s) out 0 fit ∙ rw (zero-add, w .size, le-ltb (length out) n h);
+        bytes = text ∙ over-sets (sheetText s) out fit ∙ rw (w .size, le-ltb (length out) n h);
       }
 
 -- as the code has it
-worked-here : (c : tie.After-put-sheet) → Worked (c .before .before .before .before .args .bytes .now) (c .put-sheet .result) (c .put-sheet .last .0)
+worked-here : (c : tie.After-put-sheet)
+    → Worked (c .before .before .before .before .args .bytes .now) (c .put-sheet .result) (c .put-sheet .last .0)
 worked-here c =
-    worked (λ i. omega (arith, c .before .before .before .shared-slice-known .given i)) (search needs) (search needs) (c .put-sheet .ensures)
+    let bytes = c .before .before .before .shared-slice-known .given in
+    worked (λ i. omega (arith, bytes i)) (search needs) (search needs) (c .put-sheet .ensures)
 
 slice-aggregate-put-sheet : tie.Need-slice-aggregate-put-sheet
 slice-aggregate-put-sheet c = search needs
