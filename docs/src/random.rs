@@ -1,17 +1,18 @@
 //! Compares two report programs on random table files, byte for byte.
 //!
 //! Build: rustc -O --edition 2021 docs/src/random.rs -o target/random
-//! Usage: random REPORT SECOND COUNT [SEED]
+//! Usage: random REPORT SECOND COUNT [SEED], where each program is the words that start it, one to a line
 //!
 //! The first files are a fixed list of telling cases, always run whole; the others, up to COUNT
 //! in all, are drawn from the seed. File number N is the same in every run with the same seed.
 //! At the first difference it prints the file in hex and both outputs, and leaves with 1.
 
+mod program;
 mod splitmix;
 
 use splitmix::Random;
 use std::io::{Read, Write};
-use std::process::{Command, ExitCode, Stdio};
+use std::process::ExitCode;
 use std::sync::atomic::{AtomicUsize, Ordering};
 use std::time::Duration;
 
@@ -987,9 +988,7 @@ fn limit_cases() -> Vec<Named> {
 
 /// What a program prints for the file on its standard input.
 fn output(program: &str, bytes: &[u8]) -> Result<String, String> {
-    let mut command = Command::new(program);
-    command.stdin(Stdio::piped()).stdout(Stdio::piped());
-    let child = command.spawn();
+    let child = program::command(program).spawn();
     let mut child = child.map_err(|error| format!("{program}: {error}"))?;
     let pipes = (child.stdin.take(), child.stdout.take());
     let (sender, receiver) = std::sync::mpsc::channel();

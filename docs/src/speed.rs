@@ -1,16 +1,18 @@
 //! Times two report programs on the same table files, side by side.
 //!
 //! Build: rustc -O --edition 2021 docs/src/speed.rs -o target/speed
-//! Usage: speed REPORT SECOND [SEED]
+//! Usage: speed REPORT SECOND [SEED], where each program is the words that start it, one to a line
 //!
 //! For each table: the time of each program (the least of some runs), report's as a part of second's, and that again with the
-//! time on an empty file taken off both: what is left is the work.
+//! time on an empty file taken off both: what is left is the work. Where just one of the two is started by an emulator, the
+//! times say nothing of each other, and only they are printed.
 
+mod program;
 mod splitmix;
 
 use splitmix::Random;
 use std::io::Write;
-use std::process::{Command, ExitCode, Stdio};
+use std::process::ExitCode;
 use std::time::{Duration, Instant};
 
 /// How many runs a time is the least of, and how long they may take in all.
@@ -65,9 +67,7 @@ fn sixty(random: &mut Random, cores: u64, load: u64, longest: u64, parts: u64) -
 /// One run on a file.
 fn run(program: &str, file: &[u8]) -> Duration {
     let began = Instant::now();
-    let mut child = Command::new(program)
-        .stdin(Stdio::piped())
-        .stdout(Stdio::piped())
+    let mut child = program::command(program)
         .spawn()
         .expect("the program starts");
     let mut input = child.stdin.take().expect("its input is a pipe");
@@ -88,6 +88,15 @@ fn least(program: &str, file: &[u8]) -> Duration {
         best = best.min(run(program, file));
     }
     best
+}
+
+/// One time as a part of another, where that says something.
+fn part_of(a: f64, b: f64, telling: bool) -> String {
+    if telling {
+        format!("{:.3}", a / b)
+    } else {
+        String::from("-")
+    }
 }
 
 fn main() -> ExitCode {
@@ -135,6 +144,14 @@ fn main() -> ExitCode {
             file_of(&[Row(0, 1, 2, 1, 1, vec![1]), Row(0, 1, 1, 5, 5, vec![1])]),
         ),
     ];
+    let emulated = [report, second].map(|program| program.lines().count() > 1);
+    let comparable = emulated[0] == emulated[1];
+    if emulated.contains(&true) {
+        println!("emulated: rt builds programs for x86-64, and this processor is another");
+    }
+    if !comparable {
+        println!("compare the report's times with another build's on this machine, not with the second program's");
+    }
     println!(
         "{:>10} {:>10} {:>7} {:>7}  table",
         "report ms", "second ms", "ratio", "net"
@@ -143,13 +160,14 @@ fn main() -> ExitCode {
     let start = [report, second].map(|program| milliseconds(least(program, &[])));
     for (name, file) in tables {
         let [a, b] = [report, second].map(|program| milliseconds(least(program, &file)));
+        let ratio = part_of(a, b, comparable);
         // too little work says nothing
-        let net = if b - start[1] < 1.0 {
-            String::from("-")
-        } else {
-            format!("{:.3}", (a - start[0]) / (b - start[1]))
-        };
-        println!("{a:>10.2} {b:>10.2} {:>7.3} {net:>7}  {name}", a / b);
+        let net = part_of(
+            a - start[0],
+            b - start[1],
+            comparable && b - start[1] >= 1.0,
+        );
+        println!("{a:>10.2} {b:>10.2} {ratio:>7} {net:>7}  {name}");
     }
     ExitCode::SUCCESS
 }
