@@ -9,42 +9,17 @@
 
 mod program;
 mod splitmix;
+mod table;
 
 use splitmix::Random;
 use std::io::Write;
 use std::process::ExitCode;
 use std::time::{Duration, Instant};
+use table::{file, row, Row, LIMIT};
 
 /// How many runs a time is the least of, and how long they may take in all.
 const RUNS: usize = 7;
 const PATIENCE: Duration = Duration::from_secs(20);
-
-/// One task: core, kind, priority, period, deadline, times.
-struct Row(u64, u64, u64, u64, u64, Vec<u64>);
-
-/// Seven bits a byte, low bits first, shortest form.
-fn put(file: &mut Vec<u8>, mut value: u64) {
-    while value > 127 {
-        file.push((value % 128) as u8 + 128);
-        value /= 128;
-    }
-    file.push(value as u8);
-}
-
-fn file_of(rows: &[Row]) -> Vec<u8> {
-    let mut file = Vec::new();
-    put(&mut file, rows.len() as u64);
-    for (id, Row(core, kind, priority, period, deadline, times)) in (1..).zip(rows) {
-        for field in [id, *core, *kind, *priority, *period, *deadline] {
-            put(&mut file, field);
-        }
-        put(&mut file, times.len() as u64);
-        for &time in times {
-            put(&mut file, time);
-        }
-    }
-    file
-}
 
 /// 60 rows on `cores` cores, each core loaded to about `load` thousandths, periods up to `longest`, `parts` parts a row.
 fn sixty(random: &mut Random, cores: u64, load: u64, longest: u64, parts: u64) -> Vec<u8> {
@@ -58,10 +33,10 @@ fn sixty(random: &mut Random, cores: u64, load: u64, longest: u64, parts: u64) -
             // the first third of a core's rows is preemptive, and higher
             let place = i / cores;
             let kind = u64::from(place * 3 >= on_core);
-            Row(i % cores, kind, 200 - place, period, 16_777_215, times)
+            row([i + 1, i % cores, kind, 200 - place, period, LIMIT], &times)
         })
         .collect();
-    file_of(&rows)
+    file(&rows)
 }
 
 /// One run on a file.
@@ -134,14 +109,14 @@ fn main() -> ExitCode {
         ),
         (
             "many jobs: T 2 C 1 above one part of 8,388,607",
-            file_of(&[
-                Row(0, 1, 2, 2, 16_777_215, vec![1]),
-                Row(0, 1, 1, 16_777_215, 16_777_215, vec![8_388_607]),
+            file(&[
+                row([1, 0, 1, 2, 2, LIMIT], &[1]),
+                row([2, 0, 1, 1, LIMIT, LIMIT], &[8_388_607]),
             ]),
         ),
         (
             "many rounds: T 1 C 1 above T 5 C 1",
-            file_of(&[Row(0, 1, 2, 1, 1, vec![1]), Row(0, 1, 1, 5, 5, vec![1])]),
+            file(&[row([1, 0, 1, 2, 1, 1], &[1]), row([2, 0, 1, 1, 5, 5], &[1])]),
         ),
     ];
     let emulated = [report, second].map(|program| program.lines().count() > 1);
