@@ -16,7 +16,7 @@ pub struct Coverage {
     bytes: usize,
     window: u64,
     jobs: u64,
-    unanswered: u64,
+    pub unanswered: u64,
     given_up: BTreeMap<&'static str, u64>,
 }
 
@@ -117,7 +117,7 @@ impl Coverage {
             "longest window: {} ticks; most jobs in a window: {}",
             self.window, self.jobs
         );
-        println!("files without an answer in time: {}", self.unanswered);
+        println!("files without an answer: {}", self.unanswered);
         self.print_given_up();
     }
 

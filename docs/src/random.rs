@@ -5,7 +5,8 @@
 //!
 //! The first files are a fixed list of telling cases, always run whole; the others, up to COUNT
 //! in all, are drawn from the seed. File number N is the same in every run with the same seed.
-//! At the first difference it prints the file in hex and both outputs, and leaves with 1.
+//! At the first difference it prints the file in hex and both outputs, and leaves with 1. It leaves
+//! with 1 too where neither program answered some file.
 
 mod cases;
 mod cover;
@@ -221,7 +222,8 @@ fn main() -> ExitCode {
             let (count, seed, fixed) = (plan.count, plan.seed, plan.fixed.len());
             println!("{count} files, {fixed} of them fixed, seed {seed}: no difference");
             coverage.print();
-            ExitCode::SUCCESS
+            // Two programs that both say nothing agree on nothing.
+            ExitCode::from(u8::from(coverage.unanswered > 0))
         }
     }
 }
