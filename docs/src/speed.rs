@@ -1,48 +1,25 @@
 //! Times two report programs on the same table files, side by side.
 //!
 //! Build: rustc -O --edition 2021 docs/src/speed.rs -o target/speed
-//! Usage: speed REPORT SECOND [SEED]
+//! Usage: speed REPORT SECOND [SEED], where each program is the words that start it, one to a line
 //!
 //! For each table: the time of each program (the least of some runs), report's as a part of second's, and that again with the
-//! time on an empty file taken off both: what is left is the work.
+//! time on an empty file taken off both: what is left is the work. Where just one of the two is started by an emulator, the
+//! times say nothing of each other, and only they are printed.
 
+mod program;
 mod splitmix;
+mod table;
 
 use splitmix::Random;
 use std::io::Write;
-use std::process::{Command, ExitCode, Stdio};
+use std::process::ExitCode;
 use std::time::{Duration, Instant};
+use table::{file, row, Row, LIMIT};
 
 /// How many runs a time is the least of, and how long they may take in all.
 const RUNS: usize = 7;
 const PATIENCE: Duration = Duration::from_secs(20);
-
-/// One task: core, kind, priority, period, deadline, times.
-struct Row(u64, u64, u64, u64, u64, Vec<u64>);
-
-/// Seven bits a byte, low bits first, shortest form.
-fn put(file: &mut Vec<u8>, mut value: u64) {
-    while value > 127 {
-        file.push((value % 128) as u8 + 128);
-        value /= 128;
-    }
-    file.push(value as u8);
-}
-
-fn file_of(rows: &[Row]) -> Vec<u8> {
-    let mut file = Vec::new();
-    put(&mut file, rows.len() as u64);
-    for (id, Row(core, kind, priority, period, deadline, times)) in (1..).zip(rows) {
-        for field in [id, *core, *kind, *priority, *period, *deadline] {
-            put(&mut file, field);
-        }
-        put(&mut file, times.len() as u64);
-        for &time in times {
-            put(&mut file, time);
-        }
-    }
-    file
-}
 
 /// 60 rows on `cores` cores, each core loaded to about `load` thousandths, periods up to `longest`, `parts` parts a row.
 fn sixty(random: &mut Random, cores: u64, load: u64, longest: u64, parts: u64) -> Vec<u8> {
@@ -56,18 +33,16 @@ fn sixty(random: &mut Random, cores: u64, load: u64, longest: u64, parts: u64) -
             // the first third of a core's rows is preemptive, and higher
             let place = i / cores;
             let kind = u64::from(place * 3 >= on_core);
-            Row(i % cores, kind, 200 - place, period, 16_777_215, times)
+            row([i + 1, i % cores, kind, 200 - place, period, LIMIT], &times)
         })
         .collect();
-    file_of(&rows)
+    file(&rows)
 }
 
 /// One run on a file.
 fn run(program: &str, file: &[u8]) -> Duration {
     let began = Instant::now();
-    let mut child = Command::new(program)
-        .stdin(Stdio::piped())
-        .stdout(Stdio::piped())
+    let mut child = program::command(program)
         .spawn()
         .expect("the program starts");
     let mut input = child.stdin.take().expect("its input is a pipe");
@@ -88,6 +63,15 @@ fn least(program: &str, file: &[u8]) -> Duration {
         best = best.min(run(program, file));
     }
     best
+}
+
+/// One time as a part of another, where that says something.
+fn part_of(a: f64, b: f64, telling: bool) -> String {
+    if telling {
+        format!("{:.3}", a / b)
+    } else {
+        String::from("-")
+    }
 }
 
 fn main() -> ExitCode {
@@ -125,16 +109,24 @@ fn main() -> ExitCode {
         ),
         (
             "many jobs: T 2 C 1 above one part of 8,388,607",
-            file_of(&[
-                Row(0, 1, 2, 2, 16_777_215, vec![1]),
-                Row(0, 1, 1, 16_777_215, 16_777_215, vec![8_388_607]),
+            file(&[
+                row([1, 0, 1, 2, 2, LIMIT], &[1]),
+                row([2, 0, 1, 1, LIMIT, LIMIT], &[8_388_607]),
             ]),
         ),
         (
             "many rounds: T 1 C 1 above T 5 C 1",
-            file_of(&[Row(0, 1, 2, 1, 1, vec![1]), Row(0, 1, 1, 5, 5, vec![1])]),
+            file(&[row([1, 0, 1, 2, 1, 1], &[1]), row([2, 0, 1, 1, 5, 5], &[1])]),
         ),
     ];
+    let emulated = [report, second].map(|program| program.lines().count() > 1);
+    let comparable = emulated[0] == emulated[1];
+    if emulated.contains(&true) {
+        println!("emulated: rt builds programs for x86-64, and this processor is another");
+    }
+    if !comparable {
+        println!("compare the report's times with another build's on this machine, not with the second program's");
+    }
     println!(
         "{:>10} {:>10} {:>7} {:>7}  table",
         "report ms", "second ms", "ratio", "net"
@@ -143,13 +135,14 @@ fn main() -> ExitCode {
     let start = [report, second].map(|program| milliseconds(least(program, &[])));
     for (name, file) in tables {
         let [a, b] = [report, second].map(|program| milliseconds(least(program, &file)));
+        let ratio = part_of(a, b, comparable);
         // too little work says nothing
-        let net = if b - start[1] < 1.0 {
-            String::from("-")
-        } else {
-            format!("{:.3}", (a - start[0]) / (b - start[1]))
-        };
-        println!("{a:>10.2} {b:>10.2} {:>7.3} {net:>7}  {name}", a / b);
+        let net = part_of(
+            a - start[0],
+            b - start[1],
+            comparable && b - start[1] >= 1.0,
+        );
+        println!("{a:>10.2} {b:>10.2} {ratio:>7} {net:>7}  {name}");
     }
     ExitCode::SUCCESS
 }
