@@ -3,3 +3,6 @@ pub mod Given
 pub mod Tops
 pub mod Lengths
 pub mod Cored
+pub mod Fronts
+pub mod Sought
+pub mod BoundsPut

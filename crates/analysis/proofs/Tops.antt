@@ -1,16 +1,13 @@
 -- The row to name, kept as an id and a priority while the rows are gone through. Assumes nothing.
-use Prim.Native.Nat.{ℕ, suc, _+_, _<_}
-use native.Mathlib.Numerals.{add-one}
+use Prim.Native.Nat.{_<_}
 use borrow.Author.Tests.{lt-ltb}
 use mathlib.Core.Path.{_≡_, refl, sym, ap, _∙_}
 use mathlib.Core.Bool.{Bool, true, false}
-use mathlib.Core.List.{List}
+use mathlib.Core.List.{List, [], _∷_, _++_}
 use mathlib.Core.Option.{Option, some, none}
-use lib.ListN.{take}
 use lib.Dec.{ltb}
-use Rattle.lists.specs.Lists.{pick, Place}
+use Rattle.lists.specs.Lists.{pick}
 use Rattle.lists.proofs.Tests.{by-test}
-use Rattle.lists.proofs.Drops.{place-take}
 use Rattle.model.specs.Task.{Task}
 use Rattle.model.specs.Bounds.{above, highest, idOf}
 use Rattle.model.proofs.Highest.{withNext, highest-snoc}
@@ -30,19 +27,14 @@ unfolding topOf withNext above
 next-top none t h = rw (lt-ltb 0 (t .priority) h)
 next-top (some u) t h = by-test (ltb (u .priority) (t .priority)) (λ e. rw e) (λ e. rw e)
 
-module _ (p : Task → Bool) (rows : List Task) (i : ℕ) (t : Task) (place : Place rows i t) where
-  -- through row i
-  through : highest p (take (i + 1) rows) ≡ pick (p t) (withNext (highest p (take i rows)) t) (highest p (take i rows))
-  through = rw (add-one, place-take rows i t place) (highest-snoc p (take i rows) t)
+module _ (p : Task → Bool) (seen : List Task) (t : Task) (top : Top) (so-far : top ≡ topOf (highest p seen)) where
+  -- a row that passes is looked at
+  pub top-next : 0 < t .priority → p t ≡ true → (new : Top) → new ≡ pick (ltb (top .priority) (t .priority)) (topOf (some t)) top
+      → new ≡ topOf (highest p (seen ++ (t ∷ [])))
+  top-next h e new is =
+      is ∙ ap (λ (x : Top). pick (ltb (x .priority) (t .priority)) (topOf (some t)) x) so-far
+      ∙ next-top (highest p seen) t h ∙ sym (ap topOf (highest-snoc p seen t ∙ rw e))
 
-  module _ (top : Top) (so-far : top ≡ topOf (highest p (take i rows))) where
-    -- a row that passes is looked at
-    pub top-next : 0 < t .priority → p t ≡ true → (new : Top) → new ≡ pick (ltb (top .priority) (t .priority)) (topOf (some t)) top
-        → new ≡ topOf (highest p (take (i + 1) rows))
-    top-next h e new is =
-        is ∙ ap (λ (x : Top). pick (ltb (x .priority) (t .priority)) (topOf (some t)) x) so-far
-        ∙ next-top (highest p (take i rows)) t h ∙ sym (ap topOf (through ∙ rw e))
-
-    -- any other is passed over
-    pub top-stays : p t ≡ false → top ≡ topOf (highest p (take (i + 1) rows))
-    top-stays e = so-far ∙ sym (ap topOf (through ∙ rw e))
+  -- any other is passed over
+  pub top-stays : p t ≡ false → top ≡ topOf (highest p (seen ++ (t ∷ [])))
+  top-stays e = so-far ∙ sym (ap topOf (highest-snoc p seen t ∙ rw e))

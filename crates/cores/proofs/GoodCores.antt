@@ -21,7 +21,7 @@ use Rattle.cores.proofs.AskedRows.{tasks-in}
 
 -- tasks have as many times as parts
 pub times-count : (ts : List Task) → length (allTimes ts) ≡ total parts ts
-unfolding allTimes each total parts
+unfolding each total parts
 times-count [] = refl
 times-count (t ∷ ts) = length-append (t .times) (allTimes ts) ∙ ap (_+_ (length (t .times))) (times-count ts)
 

@@ -1,68 +1,94 @@
+-- `analysis::bounds_of_row` meets its contract: the blocking, the rows of both sums, and the walk over the jobs. Assumes nothing.
+use Prim.Native.Nat.{ℕ, _≤_}
+use native.Mathlib.Omega.{arith}
 use borrow.Author.Needs.{needs}
+use mathlib.Core.Path.{_≡_, sym, ap, _∙_}
+use lib.ListN.{length, getD, take}
+use lib.Dec.{eqb}
+use lib.Seq.{getD-take, length-take-le}
+use Rattle.cores.specs.declared.Asked.{Asked}
+use Rattle.cores.specs.declared.Which.the-variants.{Preemptive}
+use Rattle.cores.specs.Cores.{askedNothing}
+use Rattle.cores.specs.Promises.{askedAt, ownFirst, wantedLoads}
+use Rattle.analysis.specs.Promises.{Bounding}
+use Rattle.analysis.proofs.Cored.{own-below, own-fit, preemptive-fit, bounds-may, bounds-left}
+use Rattle.analysis.proofs.Fronts.{front-is, front-fits}
 use Rattle.analysis.proofs.bounds_of_row.Statement.{statement}
 use Rattle.analysis.proofs.bounds_of_row.Tie as tie
-use Rattle.analysis.proofs.bounds_of_row.Reads as reads
-use Rattle.analysis.proofs.bounds_of_row.Lts as lts
-use Rattle.bounds.proofs.row_bounds.Reads as row-bounds-reads
-use Rattle.cores.proofs.blocking_of.Reads as blocking-of-reads
-use Rattle.cores.proofs.own_first.Reads as own-first-reads
-use Rattle.cores.proofs.preemptive_loads.Reads as preemptive-loads-reads
 
--- src/lib.rt:100:9
+-- the function's entry, as the calls see it
+abbrev entry : tie.After-own-first → tie.Start
+entry c = c .before .before .before .before .before
+
+-- the rows of the sum fit in their array
+fit : (c : tie.After-own-first) → c .own-first .result ≤ length (c .own-first .last .1 .1 .1 .0)
+fit c = front-fits (c .own-first .ensures) (own-fit (entry c .pre .0 .at))
+
+-- so do the preemptive rows
+pre-fit : (c : tie.After-preemptive-loads) → c .preemptive-loads .result ≤ length (c .preemptive-loads .last .1 .1 .0)
+pre-fit c = front-fits (c .preemptive-loads .ensures) (preemptive-fit (entry (c .before .before .before) .pre .0 .at))
+
+-- the kind that the code looks at
+kind-is : (asked : _) (count own long : ℕ) (times : _) → Bounding asked count own long times
+    → eqb (getD asked own askedNothing .kind) 1 ≡ eqb (askedAt (take count asked) own .kind) 1
+kind-is asked count own long times b =
+    ap (λ (a : Asked). eqb (a .kind) 1) (sym (getD-take count asked own askedNothing (own-below (b .at) .0)))
+
 blocking-of-requires : tie.Need-blocking-of-requires
-blocking-of-requires c κs = ?
+blocking-of-requires c κs = own-below (c .before .before .pre .0 .at)
 
--- src/lib.rt:102:49
 slice-aggregate-own-first : tie.Need-slice-aggregate-own-first
 slice-aggregate-own-first c = search needs
 
--- src/lib.rt:102:9
 own-first-requires : tie.Need-own-first-requires
-own-first-requires c κs = ?
+own-first-requires c κs = (own-below (c .before .before .before .before .pre .0 .at), search needs)
 
--- src/lib.rt:104:51
 slice-aggregate-preemptive-loads : tie.Need-slice-aggregate-preemptive-loads
 slice-aggregate-preemptive-loads c = search needs
 
--- src/lib.rt:104:9
 preemptive-loads-requires : tie.Need-preemptive-loads-requires
-preemptive-loads-requires c κs = search needs
+preemptive-loads-requires c κs = (own-below (entry (c .before .before) .pre .0 .at) .1, search needs)
 
--- src/lib.rt:105:15
 mul-row : tie.Need-mul-row
-mul-row c = ?
+mul-row c = omega (arith, own-below (entry (c .before .before .before .before) .pre .0 .at))
 
--- src/lib.rt:105:15
 array-copy-out-row : tie.Need-array-copy-out-row
-array-copy-out-row c = ?
+array-copy-out-row c = omega (arith, own-below (entry (c .before .before .before .before) .pre .0 .at))
 
--- src/lib.rt:112:24
 array-share-prefix-loads : tie.Need-array-share-prefix-loads
-array-share-prefix-loads c = ?
+array-share-prefix-loads c = fit (c .before .before .before .before .before .before)
 
--- src/lib.rt:112:24
 slice-aggregate-row-bounds : tie.Need-slice-aggregate-row-bounds
-slice-aggregate-row-bounds c = ?
+slice-aggregate-row-bounds c = sym (length-take-le _ _ (fit (c .before .before .before .before .before .before .before)))
 
--- src/lib.rt:112:37
 array-share-prefix-preemptive : tie.Need-array-share-prefix-preemptive
-array-share-prefix-preemptive c = ?
+array-share-prefix-preemptive c = pre-fit (c .before .before .before .before)
 
--- src/lib.rt:112:37
 slice-aggregate-row-bounds-2 : tie.Need-slice-aggregate-row-bounds-2
-slice-aggregate-row-bounds-2 c = ?
+slice-aggregate-row-bounds-2 c = sym (length-take-le _ _ (pre-fit (c .before .before .before .before .before)))
 
--- src/lib.rt:112:5
 row-bounds-requires : tie.Need-row-bounds-requires
-row-bounds-requires c κs = ?
+row-bounds-requires c κs =
+    let pre = c .before .before .before .before .before .before in
+    let first = pre .before .before .before in
+    let b = entry first .pre in (
+      bounds-may (b .0) (front-is (first .own-first .ensures)) (front-is (pre .preemptive-loads .ensures)) (kind-is _ _ _ _ _ (b .0))
+      (first .before .before .blocking-of .ensures),
+      b .1,
+    )
 
--- src/lib.rt:89:1
 same-length : tie.Need-same-length
 same-length c = search needs
 
--- src/lib.rt:89:1
 returns : tie.Need-returns
-returns c = ?
+returns c =
+    let walk = c .before .before in
+    let pre = walk .before .before .before .before .before .before .before in
+    let first = pre .before .before .before in
+    let b = entry first .pre in
+    walk .row-bounds .ensures
+    ∙ bounds-left (b .0) (front-is (first .own-first .ensures)) (front-is (pre .preemptive-loads .ensures)) (kind-is _ _ _ _ _ (b .0))
+    (first .before .before .blocking-of .ensures)
 
 pub bounds-of-row-spec : {M : Type 1} → statement M
 bounds-of-row-spec =

@@ -1,115 +1,182 @@
+-- `analysis::core_bounds` meets its contract: the bounds of the rows seen stand in front, and the highest late row is kept.
+use Prim.Native.Nat.{ℕ, _+_, _-_, _≤_, _<_}
+use native.Mathlib.Nat.{le-refl}
+use native.Mathlib.Omega.{arith}
+use borrow.Author.Needs.{needs}
+use mathlib.Core.Path.{_≡_, refl, sym, ap, _∙_}
+use mathlib.Core.Logic.{⊎-elim}
+use lib.ListN.{length, getD}
+use Rattle.lists.proofs.Parts.{part-length}
+use Rattle.table.specs.Memory.{zeroRow}
+use Rattle.analysis.proofs.Cored.{count-few}
+use Rattle.analysis.proofs.BoundsPut.{BoundsPut, none-put, room-long, coming, parts-some, bounds-fit, window-there, bounding}
+use Rattle.analysis.proofs.BoundsPut.{put-long, put-next, late-next, early-next, all-put}
 use Rattle.analysis.proofs.core_bounds.Statement.{statement}
 use Rattle.analysis.proofs.core_bounds.Tie as tie
-use Rattle.analysis.proofs.core_bounds.Reads as reads
-use Rattle.analysis.proofs.core_bounds.Lts as lts
-use Rattle.analysis.proofs.bounds_of_row.Reads as bounds-of-row-reads
-use Rattle.analysis.proofs.higher_of.Reads as higher-of-reads
 
 abbrev Inv-loop : tie.InvT-loop
-Inv-loop windows room₀ own n times asked top₀ a₀ i₀ room top a i = ?
+Inv-loop windows room₀ own n times asked top₀ a₀ i₀ room top a i = BoundsPut own room₀ room top a i
 
 abbrev μ-loop : tie.MeasureT-loop
-μ-loop windows room₀ own n times asked top₀ a₀ i₀ room top a i = ?
+μ-loop windows room₀ own n times asked top₀ a₀ i₀ room top a i = own .count - i
 
--- src/lib.rt:127:5
+-- the function's entry, as the loop sees it
+abbrev called : tie.At-loop Inv-loop μ-loop → tie.Start Inv-loop μ-loop
+called l = l .before .before .before .before .before .before
+
+-- the turn that a place of the loop belongs to
+abbrev turn : tie.After-bounds-of-row Inv-loop μ-loop → tie.In-loop Inv-loop μ-loop
+turn c = c .before .before .before .before .before .before .before
+
+-- the times of a table in memory, by its type
+times-there : (c : tie.Start Inv-loop μ-loop) → length (c .args .c .own .times) ≡ 1024
+times-there c = search needs
+
+module _ (c : tie.In-loop Inv-loop μ-loop) where
+  -- the row's part count, as the code reads it
+  count : ℕ
+  count = getD (called (c .before) .args .c .own .rows) (c .before .loop .i) zeroRow .parts
+
+  -- row i is one of at most 64
+  few : c .before .loop .i < 64
+  few = omega (arith, c .loop-test .taken, count-few (called (c .before) .pre .core))
+
+  -- its times have their place
+  times-fit : c .before .loop .a + count ≤ 1024
+  unfolding count
+  times-fit = coming (called (c .before) .pre) (c .before .loop .inv) (le-refl _) (c .loop-test .taken) .room
+
+  -- so have its bounds
+  room-fit : c .before .loop .a + count ≤ length (c .before .loop .room)
+  unfolding count
+  room-fit =
+      let b = called (c .before) .pre in
+      let s = c .before .loop .inv in
+      omega (arith, bounds-fit b s (le-refl _) (c .loop-test .taken), room-long b s (le-refl _))
+
+  -- it has a part
+  some : 1 ≤ count
+  unfolding count
+  some = parts-some (called (c .before) .pre) (c .before .loop .inv) (le-refl _) (c .loop-test .taken)
+
+-- the room after the row's bounds are put there
+room-after : (c : tie.After-bounds-of-row Inv-loop μ-loop)
+    → turn c .before .loop .a + count (turn c) - 1 < length (called (turn c .before) .args .room .now)
+unfolding count
+room-after c = omega (arith, room-fit (turn c), some (turn c), room-long (called (turn c .before) .pre) (turn c .before .loop .inv) (le-refl _))
+
 loop-holds : tie.Need-loop-holds Inv-loop μ-loop
-loop-holds c = ?
+loop-holds c = none-put (c .before .before .before .before .before .pre) _
 
--- src/lib.rt:128:19
 mul-row : tie.Need-mul-row Inv-loop μ-loop
-mul-row c = ?
+mul-row c = omega (arith, few c)
 
--- src/lib.rt:128:19
 element-copy-out-row : tie.Need-element-copy-out-row Inv-loop μ-loop
-element-copy-out-row c = ?
+element-copy-out-row c = few c
 
--- src/lib.rt:129:21
 cast-e : tie.Need-cast-e Inv-loop μ-loop
-cast-e c = ?
+cast-e c = search needs
 
--- src/lib.rt:129:17
 add-e : tie.Need-add-e Inv-loop μ-loop
-add-e c = ?
+unfolding count
+add-e c = omega (arith, times-fit (c .before .before))
 
--- src/lib.rt:130:36
 mul-bounds-of-row : tie.Need-mul-bounds-of-row Inv-loop μ-loop
-mul-bounds-of-row c = ?
+mul-bounds-of-row c = omega (arith, few (c .before .before))
 
--- src/lib.rt:130:36
 shared-slice-read-bounds-of-row : tie.Need-shared-slice-read-bounds-of-row Inv-loop μ-loop
-shared-slice-read-bounds-of-row c = ?
+shared-slice-read-bounds-of-row c =
+    let l = c .before .before .before in
+    window-there (called (l .before) .pre) (l .before .loop .inv) (le-refl _) (l .loop-test .taken)
 
--- src/lib.rt:130:48
 mul-bounds-of-row-2 : tie.Need-mul-bounds-of-row-2 Inv-loop μ-loop
-mul-bounds-of-row-2 c = ?
+unfolding count
+mul-bounds-of-row-2 c = omega (arith, times-fit (c .before .before .before))
 
--- src/lib.rt:130:48
 sub-bounds-of-row : tie.Need-sub-bounds-of-row Inv-loop μ-loop
-sub-bounds-of-row c = ?
+unfolding count
+sub-bounds-of-row c = omega (arith, times-fit (c .before .before .before))
 
--- src/lib.rt:130:48
 part-bounds-of-row-start : tie.Need-part-bounds-of-row-start Inv-loop μ-loop
-part-bounds-of-row-start c = ?
+unfolding count
+part-bounds-of-row-start c =
+    let l = c .before .before .before .before in omega (arith, times-fit l, times-there (called (l .before)))
 
--- src/lib.rt:130:48
 part-bounds-of-row-end : tie.Need-part-bounds-of-row-end Inv-loop μ-loop
-part-bounds-of-row-end c = ?
+unfolding count
+part-bounds-of-row-end c =
+    let l = c .before .before .before .before in omega (arith, times-fit l, times-there (called (l .before)))
 
--- src/lib.rt:130:62
 mul-bounds-of-row-3 : tie.Need-mul-bounds-of-row-3 Inv-loop μ-loop
-mul-bounds-of-row-3 c = ?
+unfolding count
+mul-bounds-of-row-3 c = omega (arith, times-fit (c .before .before .before .before .before))
 
--- src/lib.rt:130:62
 sub-bounds-of-row-2 : tie.Need-sub-bounds-of-row-2 Inv-loop μ-loop
-sub-bounds-of-row-2 c = ?
+unfolding count
+sub-bounds-of-row-2 c = omega (arith, times-fit (c .before .before .before .before .before))
 
--- src/lib.rt:130:62
 part-bounds-of-row-start-2 : tie.Need-part-bounds-of-row-start-2 Inv-loop μ-loop
-part-bounds-of-row-start-2 c = ?
+unfolding count
+part-bounds-of-row-start-2 c = omega (arith, room-fit (c .before .before .before .before .before))
 
--- src/lib.rt:130:62
 part-bounds-of-row-end-2 : tie.Need-part-bounds-of-row-end-2 Inv-loop μ-loop
-part-bounds-of-row-end-2 c = ?
+unfolding count
+part-bounds-of-row-end-2 c = omega (arith, room-fit (c .before .before .before .before .before))
 
--- src/lib.rt:130:9
 bounds-of-row-requires : tie.Need-bounds-of-row-requires Inv-loop μ-loop
-bounds-of-row-requires c κs = ?
+unfolding count
+bounds-of-row-requires c κs =
+    let l = c .before .before .before .before .before .before in
+    let times : l .before .loop .a + count l ≤ length (called (l .before) .args .c .own .times)
+    = omega (arith, times-fit l, times-there (called (l .before))) in (
+      bounding (called (l .before) .pre) (l .before .loop .inv) (le-refl _) (l .loop-test .taken),
+      part-length _ _ _ (room-fit l) ∙ sym (part-length _ _ _ times),
+    )
 
--- src/lib.rt:131:32
 sub-if1 : tie.Need-sub-if1 Inv-loop μ-loop
-sub-if1 c = ?
+unfolding count
+sub-if1 c = omega (arith, some (turn (c .before .before)))
 
--- src/lib.rt:131:27
 mul-if1 : tie.Need-mul-if1 Inv-loop μ-loop
-mul-if1 c = ?
+unfolding count
+mul-if1 c = omega (arith, times-fit (turn (c .before .before)))
 
--- src/lib.rt:131:27
 slice-read-if1 : tie.Need-slice-read-if1 Inv-loop μ-loop
-slice-read-if1 c = ?
+unfolding count
+slice-read-if1 c =
+    let p = c .before .before .before in
+    let l = turn p in
+    let same = put-long (called (l .before) .pre) (l .before .loop .inv) (le-refl _) (l .loop-test .taken) _ (p .bounds-of-row .ensures) _ refl in
+    omega (arith, room-after p, same)
 
--- src/lib.rt:132:13
 higher-of-requires : tie.Need-higher-of-requires Inv-loop μ-loop
-higher-of-requires c κs = ?
+higher-of-requires c κs = search needs
 
--- src/lib.rt:135:9
 add-i : tie.Need-add-i Inv-loop μ-loop
-add-i c = ?
+add-i c = omega (arith, few (turn (c .before .before .before .before .before)))
 
--- src/lib.rt:127:5
 loop-less : tie.Need-loop-less Inv-loop μ-loop
-loop-less c = ?
+loop-less c = omega (arith, turn (c .before .before .before .before .before) .loop-test .taken)
 
--- src/lib.rt:127:5
 loop-again : tie.Need-loop-again Inv-loop μ-loop
-loop-again c = ?
+loop-again c =
+    let p = c .before .before .before .before .before in
+    let l = turn p in
+    let b = called (l .before) .pre in
+    let s = l .before .loop .inv in
+    let inside = l .loop-test .taken in
+    let put = p .bounds-of-row .ensures in
+    put-next b s (le-refl _) inside _ put _ refl _
+    (⊎-elim
+    (λ w. w .2 ∙ late-next b s (le-refl _) inside _ put _ refl (w .0 .taken) _ (w .1 .ensures))
+    (λ w. w .1 ∙ early-next b s (le-refl _) inside _ put _ refl (w .0 .left))
+    (c .if1 .came))
 
--- src/lib.rt:116:1
 same-length : tie.Need-same-length Inv-loop μ-loop
-same-length c = ?
+same-length c = room-long (called (c .before) .pre) (c .before .loop .inv) (le-refl _)
 
--- src/lib.rt:116:1
 returns : tie.Need-returns Inv-loop μ-loop
-returns c = ?
+returns c = all-put (called (c .before) .pre) (c .before .loop .inv) (c .loop-test .left)
 
 pub core-bounds-spec : {M : Type 1} → statement M
 core-bounds-spec =

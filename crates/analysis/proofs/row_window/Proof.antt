@@ -1,48 +1,75 @@
+-- `analysis::row_window` meets its contract: the blocking, the rows of the sum, and one search. Assumes nothing.
+use Prim.Native.Nat.{ℕ, _≤_}
+use native.Mathlib.Omega.{arith}
 use borrow.Author.Needs.{needs}
+use mathlib.Core.Path.{_≡_, sym, ap, ap₂, _∙_}
+use lib.ListN.{length, take, getD, length-replicate}
+use lib.Seq.{length-take-le}
+use Rattle.model.specs.Least.{value}
+use Rattle.bounds.specs.declared.Answer.{Answer}
+use Rattle.bounds.specs.Loads.{searched}
+use Rattle.cores.specs.Promises.{ownFirst, blockingIn}
+use Rattle.analysis.specs.Promises.{windowIn}
+use Rattle.analysis.proofs.Cored.{own-below, own-fit, window-may, window-in}
+use Rattle.analysis.proofs.Lengths.{length-small}
+use Rattle.analysis.proofs.Fronts.{front-is, front-fits}
 use Rattle.analysis.proofs.row_window.Statement.{statement}
 use Rattle.analysis.proofs.row_window.Tie as tie
-use Rattle.analysis.proofs.row_window.Reads as reads
-use Rattle.analysis.proofs.row_window.Lts as lts
-use Rattle.bounds.proofs.value_of.Reads as value-of-reads
-use Rattle.bounds.proofs.window_of.Reads as window-of-reads
-use Rattle.cores.proofs.blocking_of.Reads as blocking-of-reads
-use Rattle.cores.proofs.own_first.Reads as own-first-reads
 
--- src/lib.rt:59:9
+-- the rows of the sum fit in the array
+fit : (c : tie.After-own-first) → c .own-first .result ≤ length (c .own-first .last .1 .1 .1 .0)
+fit c = front-fits (c .own-first .ensures) (own-fit (c .before .before .before .pre))
+
+-- and stand in front of it
+front : (c : tie.After-own-first)
+    → take (c .own-first .result) (c .own-first .last .1 .1 .1 .0)
+    ≡ ownFirst (take (c .before .before .before .args .count) (c .before .before .before .args .asked)) (c .before .before .before .args .own)
+front c = front-is (c .own-first .ensures)
+
+-- what the search found
+answered : (c : tie.After-value-of)
+    → c .value-of .result
+    ≡ windowIn (take (c .before .before .before .before .before .before .before .args .count)
+    (c .before .before .before .before .before .before .before .args .asked))
+    (c .before .before .before .before .before .before .before .args .own)
+unfolding windowIn
+answered c =
+    let first = c .before .before .before .before in
+    c .value-of .ensures
+    ∙ ap (λ (a : Answer). value (a .found))
+    (c .before .window-of .ensures
+    ∙ ap₂ (λ l b. searched l b (getD l 1 0)) (front first) (first .before .before .blocking-of .ensures))
+
 blocking-of-requires : tie.Need-blocking-of-requires
-blocking-of-requires c κs = ?
+blocking-of-requires c κs = own-below (c .pre)
 
--- src/lib.rt:61:49
 slice-aggregate-own-first : tie.Need-slice-aggregate-own-first
 slice-aggregate-own-first c = search needs
 
--- src/lib.rt:61:9
 own-first-requires : tie.Need-own-first-requires
-own-first-requires c κs = ?
+own-first-requires c κs = (own-below (c .before .before .pre), search needs)
 
--- src/lib.rt:62:36
 array-share-prefix-loads : tie.Need-array-share-prefix-loads
-array-share-prefix-loads c = ?
+array-share-prefix-loads c = fit (c .before)
 
--- src/lib.rt:62:36
 slice-aggregate-window-of : tie.Need-slice-aggregate-window-of
-slice-aggregate-window-of c = ?
+slice-aggregate-window-of c = sym (length-take-le _ _ (fit (c .before .before)))
 
--- src/lib.rt:62:9
 window-of-requires : tie.Need-window-of-requires
-window-of-requires c κs = ?
+window-of-requires c κs =
+    let first = c .before .before in
+    window-may (first .before .before .before .pre) (front first) (first .before .before .blocking-of .ensures)
 
--- src/lib.rt:63:5
 value-of-requires : tie.Need-value-of-requires
 value-of-requires c κs = search needs
 
--- src/lib.rt:63:5
 cast-result : tie.Need-cast-result
-cast-result c = ?
+cast-result c =
+    let at = c .before .before .before .before .before .before .before .pre in
+    omega (arith, answered c ∙ window-in at, length-small (at .rows) (at .t))
 
--- src/lib.rt:55:1
 returns : tie.Need-returns
-returns c = ?
+returns c = answered c
 
 pub row-window-spec : {M : Type 1} → statement M
 row-window-spec =

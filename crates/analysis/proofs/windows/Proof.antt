@@ -1,63 +1,82 @@
+-- `analysis::windows` meets its contract: the windows of i rows stand in front, and the highest row without one is kept.
+use Prim.Native.Nat.{ℕ, _-_, _≤_, _<_}
+use native.Mathlib.Omega.{arith}
+use borrow.Author.Needs.{needs}
+use mathlib.Core.Path.{_≡_, ap, _∙_}
+use mathlib.Core.Logic.{⊎-elim}
+use lib.ListN.{length}
+use Rattle.table.specs.Memory.{tasksOf}
+use Rattle.analysis.proofs.Cored.{count-few, at-row}
+use Rattle.analysis.proofs.Sought.{Sought, none-sought, coming, sought-next, named-next, passed-next, all-sought}
 use Rattle.analysis.proofs.windows.Statement.{statement}
 use Rattle.analysis.proofs.windows.Tie as tie
-use Rattle.analysis.proofs.windows.Reads as reads
-use Rattle.analysis.proofs.windows.Lts as lts
-use Rattle.analysis.proofs.higher_of.Reads as higher-of-reads
-use Rattle.analysis.proofs.row_window.Reads as row-window-reads
 
 abbrev Inv-loop : tie.InvT-loop
-Inv-loop out₀ own n asked top₀ i₀ out top i = ?
+Inv-loop out₀ own n asked top₀ i₀ out top i = Sought (tasksOf own) out₀ out top i
 
 abbrev μ-loop : tie.MeasureT-loop
-μ-loop out₀ own n asked top₀ i₀ out top i = ?
+μ-loop out₀ own n asked top₀ i₀ out top i = own .count - i
 
--- src/lib.rt:76:5
+-- the function's entry, as the loop sees it
+abbrev called : tie.At-loop Inv-loop μ-loop → tie.Start Inv-loop μ-loop
+called l = l .before .before .before .before
+
+-- row i is one of at most 64
+few : (c : tie.In-loop Inv-loop μ-loop) → c .before .loop .i < 64
+few c = omega (arith, c .loop-test .taken, count-few (called (c .before) .pre .0))
+
+-- so its window has a place
+room : (c : tie.In-loop Inv-loop μ-loop) → c .before .loop .i < length (called (c .before) .args .out .now)
+room c = omega (arith, few c, called (c .before) .pre .1)
+
 loop-holds : tie.Need-loop-holds Inv-loop μ-loop
-loop-holds c = ?
+loop-holds c = none-sought _ _
 
--- src/lib.rt:77:13
 row-window-requires : tie.Need-row-window-requires Inv-loop μ-loop
-row-window-requires c κs = ?
+row-window-requires c κs =
+    let k = called (c .before) .pre .0 in
+    let w = coming k (c .before .loop .inv) (c .loop-test .taken) in
+    at-row k _ (w .0) (w .1)
 
--- src/lib.rt:78:9
 mul-out : tie.Need-mul-out Inv-loop μ-loop
-mul-out c = ?
+mul-out c = omega (arith, few (c .before))
 
--- src/lib.rt:78:9
 slice-write-out : tie.Need-slice-write-out Inv-loop μ-loop
-slice-write-out c = ?
+slice-write-out c = omega (arith, room (c .before), c .before .before .loop .inv .same)
 
--- src/lib.rt:80:23
 mul-row : tie.Need-mul-row Inv-loop μ-loop
-mul-row c = ?
+mul-row c = omega (arith, few (c .before .before))
 
--- src/lib.rt:80:23
 element-copy-out-row : tie.Need-element-copy-out-row Inv-loop μ-loop
-element-copy-out-row c = ?
+element-copy-out-row c = few (c .before .before)
 
--- src/lib.rt:81:13
 higher-of-requires : tie.Need-higher-of-requires Inv-loop μ-loop
-higher-of-requires c κs = ?
+higher-of-requires c κs = search needs
 
--- src/lib.rt:83:9
 add-i : tie.Need-add-i Inv-loop μ-loop
-add-i c = ?
+add-i c = omega (arith, few (c .before .before))
 
--- src/lib.rt:76:5
 loop-less : tie.Need-loop-less Inv-loop μ-loop
-loop-less c = ?
+loop-less c = omega (arith, c .before .before .loop-test .taken)
 
--- src/lib.rt:76:5
 loop-again : tie.Need-loop-again Inv-loop μ-loop
-loop-again c = ?
+loop-again c =
+    let l = c .before .before in
+    let k = called (l .before) .pre .0 in
+    let s = l .before .loop .inv in
+    let inside = l .loop-test .taken in
+    let is = c .before .row-window .ensures in
+    sought-next k s inside _ is (room l) _
+    (⊎-elim
+    (λ w. w .3 ∙ named-next k s inside _ is (w .0 .taken) _ (w .2 .ensures))
+    (λ w. w .1 ∙ passed-next k s inside _ is (w .0 .left))
+    (c .if1 .came))
 
--- src/lib.rt:67:1
 same-length : tie.Need-same-length Inv-loop μ-loop
-same-length c = ?
+same-length c = c .before .loop .inv .same
 
--- src/lib.rt:67:1
 returns : tie.Need-returns Inv-loop μ-loop
-returns c = ?
+returns c = all-sought (called (c .before) .pre .0) (c .before .loop .inv) (c .loop-test .left)
 
 pub windows-spec : {M : Type 1} → statement M
 windows-spec =

@@ -174,7 +174,7 @@ asked-nothing-requires : tie.Need-asked-nothing-requires Inv-loop μ-loop
 asked-nothing-requires c κs = search needs
 
 loop-holds : tie.Need-loop-holds Inv-loop μ-loop
-unfolding allTimes each
+unfolding each
 loop-holds c =
     let s = c .before .before .before in
     let t = s .args .t1 in
