@@ -6,3 +6,4 @@ pub mod Cored
 pub mod Fronts
 pub mod Sought
 pub mod BoundsPut
+pub mod Tabled
