@@ -167,18 +167,14 @@ rows-four (t ∷ ts) g =
     let here = shares (t .core) (length (t .times)) (g t (List·Memᴰ·head refl) .core .most) in
     rw (length-append (t .times) (allTimes ts)) (omega (arith, rows-four ts (λ u m. g u (List·Memᴰ·tail m))))
 
--- how many bounds the four cores have together
-onFour : List Task → ℕ
-onFour ts = needed (onCore 0 ts) + needed (onCore 1 ts) + needed (onCore 2 ts) + needed (onCore 3 ts)
-
--- no more than there are times
-four : (ts : List Task) → AllGood ts → onFour ts ≤ length (allTimes ts)
-unfolding onFour
-four ts g = omega (arith, parts-needed 0 ts, parts-needed 1 ts, parts-needed 2 ts, parts-needed 3 ts, rows-four ts g)
+-- the four cores have no more bounds than there are times
+four : (ts : List Task) → AllGood ts
+    → needed (onCore 0 ts) + needed (onCore 1 ts) + needed (onCore 2 ts) + needed (onCore 3 ts) ≤ length (allTimes ts)
+four ts g = rw (← parts-needed 0 ts, ← parts-needed 1 ts, ← parts-needed 2 ts, ← parts-needed 3 ts) (rows-four ts g)
 
 -- header 34, at most 1,024 lines of 29, four verdicts of 28
 pub good-short : (ts : List Task) → AllGood ts → length (allTimes ts) ≤ 1024 → length (goodText ts) ≤ 29842
-unfolding goodText each listed header line onFour
+unfolding goodText each listed header line
 good-short ts g few =
     let c = coreText ts in
     let short : (core : ℕ) → core ≤ 3 → length (c core) ≤ needed (onCore core ts) * 29 + 28 = λ core h. core-short ts core h g in

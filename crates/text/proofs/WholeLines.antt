@@ -9,7 +9,19 @@ use lib.Dec.{eqb, ltb}
 use Rattle.lists.specs.Lists.{any, each, listed}
 use Rattle.lists.proofs.Tests.{by-test}
 use Rattle.lists.proofs.Anys.{none-passes, none-append}
-use Rattle.text.specs.Text.{space, lineFeed, digit, decimalIn, decimal, line, inFirst, linesIn}
+use Rattle.text.specs.Text.{space, lineFeed, digit, decimalIn, decimal, line, inFirst, linesIn, LinesAreTheText}
+
+-- one after another, the lines of a text are the text
+pub lines-are-the-text : LinesAreTheText
+unfolding linesIn inFirst each
+lines-are-the-text [] = refl
+lines-are-the-text (b ∷ bs) =
+    by-test (eqb b lineFeed) (λ e. rw (e, lines-are-the-text bs))
+    (λ e. rw e (in-first (linesIn bs) ∙ ap (_∷_ b) (lines-are-the-text bs)))
+  where
+    in-first : (ls : List (List ℕ)) → each (λ l. l) (inFirst b ls) ≡ b ∷ each (λ l. l) ls
+    in-first [] = refl
+    in-first (l ∷ ls) = refl
 
 -- ---- words
 
