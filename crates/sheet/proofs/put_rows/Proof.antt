@@ -104,30 +104,30 @@ parts-on-requires : tie.Need-parts-on-requires Inv-loop μ-loop
 parts-on-requires c κs = search needs
 
 -- the row's bounds end within those that are lent, which are no more than a table's times
-within : (c : tie.After-parts-on Inv-loop μ-loop)
+bounds-end : (c : tie.After-parts-on Inv-loop μ-loop)
     → (c .before .before .before .loop .used + c .parts-on .result
     ≤ length (c .before .before .before .before .before .before .args .bounds .now))
     × (c .before .before .before .loop .used + c .parts-on .result ≤ 1024)
-within c =
+bounds-end c =
     let c2 = c .before .before in
     let k = c2 .before .loop .inv in
     let next = left-next k (c2 .loop-test .taken) _ (c .parts-on .ensures) in
     (omega (arith, next), omega (arith, next, k .enough .most))
 
 add-end : tie.Need-add-end Inv-loop μ-loop
-add-end c = omega (arith, within c)
+add-end c = omega (arith, bounds-end c)
 
 mul-put-row : tie.Need-mul-put-row Inv-loop μ-loop
-mul-put-row c = omega (arith, within (c .before))
+mul-put-row c = omega (arith, bounds-end (c .before))
 
 sub-put-row : tie.Need-sub-put-row Inv-loop μ-loop
 sub-put-row c = omega arith
 
 part-put-row-start : tie.Need-part-put-row-start Inv-loop μ-loop
-part-put-row-start c = omega (arith, within (c .before))
+part-put-row-start c = omega (arith, bounds-end (c .before))
 
 part-put-row-end : tie.Need-part-put-row-end Inv-loop μ-loop
-part-put-row-end c = omega (arith, within (c .before))
+part-put-row-end c = omega (arith, bounds-end (c .before))
 
 put-row-requires : tie.Need-put-row-requires Inv-loop μ-loop
 unfolding own row

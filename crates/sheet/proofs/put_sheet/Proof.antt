@@ -31,13 +31,13 @@ module _ {s : List ℕ} {l : Loaded} (r : Read s l) where
 
   module _ {k : ℕ} (code : k ≡ codeOf (l .verdict)) where
     -- a refused file prints its line
-    line : (k ≡ 0 → ⊥) → sheetText s ≡ fileLine (l .verdict)
-    line bad = refused-text s l (r .same) (λ z. bad (code ∙ z))
+    refused-line : (k ≡ 0 → ⊥) → sheetText s ≡ fileLine (l .verdict)
+    refused-line bad = refused-text s l (r .same) (λ z. bad (code ∙ z))
 
     module _ (zero : k ≡ 0) where
       -- a good one its cores
-      cores : sheetText s ≡ goodText (tasksOf (l .table))
-      cores = good-text s l (r .same) (sym code ∙ zero)
+      good-cores : sheetText s ≡ goodText (tasksOf (l .table))
+      good-cores = good-text s l (r .same) (sym code ∙ zero)
 
       -- whose table has no fault
       fine : codeOf (faultOf (l .table)) ≡ 0
@@ -59,7 +59,7 @@ put-file-line-requires c κs =
     let c2 = c1 .before in
     let c3 = c2 .before in
     let c6 = c3 .before .before .before in
-    fits-as (line (read-of c3) (c2 .code-of .ensures) (c1 .if1 .taken)) (fits (read-of c3) (c6 .pre))
+    fits-as (refused-line (read-of c3) (c2 .code-of .ensures) (c1 .if1 .taken)) (fits (read-of c3) (c6 .pre))
 
 same-length : tie.Need-same-length
 same-length c = search needs
@@ -70,7 +70,7 @@ returns c =
     let c4 = c2 .before .before in
     let c5 = c4 .before in
     let c6 = c5 .before in
-    put-as (line (read-of c6) (c5 .code-of .ensures) (c4 .if1 .taken)) (c2 .put-file-line .ensures)
+    put-as (refused-line (read-of c6) (c5 .code-of .ensures) (c4 .if1 .taken)) (c2 .put-file-line .ensures)
 
 put-cores-requires : tie.Need-put-cores-requires
 put-cores-requires c κs =
@@ -79,7 +79,7 @@ put-cores-requires c κs =
     let c3 = c2 .before in
     let c6 = c3 .before .before .before in
     let r = read-of c3 in
-    (fine r (c2 .code-of .ensures) (c1 .if1 .left), fits-as (cores r (c2 .code-of .ensures) (c1 .if1 .left)) (fits r (c6 .pre)))
+    (fine r (c2 .code-of .ensures) (c1 .if1 .left), fits-as (good-cores r (c2 .code-of .ensures) (c1 .if1 .left)) (fits r (c6 .pre)))
 
 same-length-2 : tie.Need-same-length-2
 same-length-2 c = search needs
@@ -90,7 +90,7 @@ returns-2 c =
     let c4 = c2 .before .before in
     let c5 = c4 .before in
     let c6 = c5 .before in
-    put-as (cores (read-of c6) (c5 .code-of .ensures) (c4 .if1 .left)) (c2 .put-cores .ensures)
+    put-as (good-cores (read-of c6) (c5 .code-of .ensures) (c4 .if1 .left)) (c2 .put-cores .ensures)
 
 pub put-sheet-spec : {M : Type 1} → statement M
 put-sheet-spec =
