@@ -7,12 +7,12 @@ use Rattle.lists.proofs.Tests.{by-test, never}
 
 module _ {A : Type 0} (p : A → Bool) where
   -- neither the first nor any of the others
-  pub none-passes : (x : A) (xs : List A) → any p (x ∷ xs) ≡ false → (p x ≡ false) × (any p xs ≡ false)
+  pub none-cons : (x : A) (xs : List A) → any p (x ∷ xs) ≡ false → (p x ≡ false) × (any p xs ≡ false)
   unfolding any
-  none-passes x xs e = by-test (p x) (λ t. absurd (never refl (rw t at e))) (λ f. (f, rw f at e))
+  none-cons x xs e = by-test (p x) (λ t. absurd (never refl (rw t at e))) (λ f. (f, rw f at e))
 
   -- none in two lists, one behind the other
   pub none-append : (xs ys : List A) → any p xs ≡ false → any p ys ≡ false → any p (xs ++ ys) ≡ false
   unfolding any
   none-append [] ys e f = f
-  none-append (x ∷ xs) ys e f = let n = none-passes x xs e in rw (n .0) (none-append xs ys (n .1) f)
+  none-append (x ∷ xs) ys e f = let n = none-cons x xs e in rw (n .0) (none-append xs ys (n .1) f)

@@ -93,15 +93,10 @@ lines-same core rows (t ∷ ts) rest =
 
 -- ---- the verdict
 
--- where there is room, it is what is said of the core
-pub said-alike : (core : ℕ) (rows : List Task) (room : ℕ) → needed rows ≤ room → coreSaid core rows room ≡ coreSaid core rows (needed rows)
+-- on one of the four cores, with room for its bounds: good, or code 11 or 12
+pub said-is : (core : ℕ) (rows : List Task) (room : ℕ) → core ≤ 3 → needed rows ≤ room → coreSaid core rows room ≡ named (coreVerdict rows)
 unfolding coreSaid roomSaid
-said-alike core rows room h = rw (le-ltb room (needed rows) h, le-ltb (needed rows) (needed rows) (omega arith))
-
--- on one of the four cores: good, or code 11 or 12
-pub said-is : (core : ℕ) (rows : List Task) → core ≤ 3 → coreSaid core rows (needed rows) ≡ named (coreVerdict rows)
-unfolding coreSaid roomSaid
-said-is core rows h = rw (le-ltb 3 core h, le-ltb (needed rows) (needed rows) (omega arith))
+said-is core rows room h fits = rw (le-ltb 3 core h, le-ltb room (needed rows) fits)
 
 -- without code 11 the bounds are written
 module _ (rows : List Task) (bounds : List ℕ) where
@@ -159,8 +154,7 @@ module _ {t : Table} {core : ℕ} (g : CoreOfTable t core) where
   text-is {bounds} {a} {bounds′} long gives =
       let mine : List Task = onCore core (tasksOf t) in
       let fits : needed mine ≤ length bounds = omega (arith, room-fits) in
-      let said : tableSaid t core (length bounds) ≡ coreSaid core mine (needed mine)
-      = or-good (faultOf t) _ (g .fine) ∙ said-alike core mine (length bounds) fits in
-      let is : tableSaid t core (length bounds) ≡ named (coreVerdict mine) = said ∙ said-is core mine (g .small) in
+      let is : tableSaid t core (length bounds) ≡ named (coreVerdict mine)
+      = or-good (faultOf t) _ (g .fine) ∙ said-is core mine (length bounds) (g .small) fits in
       rw (ap (λ (x : Analysed). x .verdict) (gives .answer), gives .left, is, ← rows-here)
-      (text-of core (tasksOf t) bounds (coreVerdict mine) ∙ rw (said-is core mine (g .small)))
+      (text-of core (tasksOf t) bounds (coreVerdict mine) ∙ rw (said-is core mine (needed mine) (g .small) (omega arith)))

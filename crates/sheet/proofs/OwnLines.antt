@@ -24,9 +24,9 @@ use Rattle.analysis.specs.Analysis.{needed}
 use Rattle.text.specs.Text.{linesIn}
 use Rattle.text.proofs.WholeLines.{decimal-plain, decimals-plain}
 use Rattle.text.proofs.WholeLines.{InLines, line-alone, no-line, append-lines, each-lines, counted-lines, all-lines}
-use Rattle.sheet.specs.Sheet.{header, boundLine, coreLine, partLine, rowLines, coreTextOf}
+use Rattle.sheet.specs.Sheet.{fileWord, header, boundLine, verdictWords, coreLine, fileLine, partLine, rowLines, coreTextOf}
 use Rattle.sheet.specs.Sheet.{saidOf, coreText, goodText, textOf, sheetText}
-use Rattle.sheet.specs.Claims.{boundCount, linesBefore, LineOfItsRow, LineOfItsCore, NoOtherLine}
+use Rattle.sheet.specs.Claims.{boundCount, linesBefore, LineOfItsRow, LineOfItsCore, NoOtherLine, LineOfARefusal}
 
 -- ---- the lines
 
@@ -75,13 +75,14 @@ module _ (tasks : List Task) where
   unfolding goodText
   good-lines = append-lines header-lines (each-lines (coreText tasks) (coreList tasks) core-lines (upTo 4))
 
-  -- ---- how many there are
+-- ---- how many there are
 
-  -- of rows
-  rows-counted : (core : ℕ) (rows ts : List Task) → total (λ t. length (rowList core rows t)) ts ≡ needed ts
-  unfolding needed
-  rows-counted core rows ts = total-same _ parts ts (λ t m. listed-length (partLine core rows t) (parts t))
+-- of rows
+rows-counted : (core : ℕ) (rows ts : List Task) → total (λ t. length (rowList core rows t)) ts ≡ needed ts
+unfolding needed
+rows-counted core rows ts = total-same _ parts ts (λ t m. listed-length (partLine core rows t) (parts t))
 
+module _ (tasks : List Task) where
   -- of a core's bounds
   bounds-counted : (core : ℕ) → length (boundList tasks core) ≡ boundCount tasks core
   unfolding boundList boundCount
@@ -113,22 +114,32 @@ module _ (s : List ℕ) (tasks : List Task) (next : ℕ) (e : decode s ≡ go ta
       let here : linesBefore tasks core + k ≡ suc (total (λ c. length (coreList tasks c)) (take core (upTo 4)) + k) = omega arith in
       rw (sheet-lines, here) (place-each (coreList tasks) (upTo 4) core core (place-listed (λ i. i) 4 core h) k l p)
 
+-- each bound, at its place
 pub line-of-its-row : LineOfItsRow
 unfolding boundList
 line-of-its-row s tasks next e core h some i t p r q =
     let rows : List Task = onCore core tasks in
     let own = place-each (rowList core rows) rows i t p r (partLine core rows t r) (place-listed (partLine core rows t) (parts t) r q) in
-    let mine = place-left _ (coreLine core (saidOf tasks core) ∷ []) _ _ (rw (rows-counted tasks core rows (take i rows)) at own) in
+    let mine = place-left _ (coreLine core (saidOf tasks core) ∷ []) _ _ (rw (rows-counted core rows (take i rows)) at own) in
     rw add-assoc (in-sheet s tasks next e core h (needed (take i rows) + r) _ (rw (ne-eqb (codeOf (saidOf tasks core)) 11 some) mine))
 
+-- the verdict behind them
 pub line-of-its-core : LineOfItsCore
 unfolding Place
 line-of-its-core s tasks next e core h =
     let last = place-right (boundList tasks core) (coreLine core (saidOf tasks core) ∷ []) 0 _ refl in
     in-sheet s tasks next e core h (boundCount tasks core) _ (rw (add-zero, bounds-counted tasks core) at last)
 
+-- and no other
 pub no-other-line : NoOtherLine
 unfolding Place linesBefore
 no-other-line s tasks next e =
     let all = each-length (coreList tasks) (upTo 4) ∙ cores-counted tasks (upTo 4) in
     (rw (sheet-lines s tasks next e) refl, ap length (sheet-lines s tasks next e) ∙ omega (arith, all))
+
+-- with a reading code there is one line
+pub line-of-a-refusal : LineOfARefusal
+unfolding sheetText textOf fileLine any
+line-of-a-refusal s v e =
+    ap (λ x. linesIn (textOf x)) e
+    ∙ all-lines (line-alone fileWord (verdictWords v) (rw (decimal-plain (codeOf v), decimal-plain (numberOf v))))

@@ -115,8 +115,10 @@ row-short core rows t c g =
     let short : (r : ℕ) → r < parts t → length (partLine core rows t r) ≤ 29
     = λ r h. bound-short core (t .id) (r + 1) (bound rows t r) (t .deadline) (omega arith) (omega (arith, g .id .most))
     (omega (arith, g .count .most)) (omega (arith, bound-most rows t r)) (omega (arith, g .deadline .most)) in
-    let all = each-short (partLine core rows t) (λ r. 1) 29 (upTo (parts t)) (λ r m. omega (arith, short r (counted-below (parts t) r m))) in
-    omega (arith, all, total-ones (upTo (parts t)), listed-length (λ (r : ℕ). r) (parts t))
+    let one : (r : ℕ) → r ∈ upTo (parts t) → length (partLine core rows t r) ≤ 1 * 29
+    = λ r m. omega (arith, short r (counted-below (parts t) r m)) in
+    let count : total (λ (r : ℕ). 1) (upTo (parts t)) ≡ parts t = total-ones (upTo (parts t)) ∙ listed-length (λ (r : ℕ). r) (parts t) in
+    omega (arith, each-short (partLine core rows t) (λ r. 1) 29 (upTo (parts t)) one)
 
 -- rows one after another
 lines-short : (core : ℕ) (rows ts : List Task) → core ≤ 3 → AllGood ts → length (each (rowLines core rows) ts) ≤ needed ts * 29
@@ -141,7 +143,7 @@ core-short tasks core c g =
     let small = named-small rows mine (coreVerdict rows) (verdict-says rows) in
     let verdict = core-line-short core v (omega arith) (small .0) (small .1) in
     let lines = lines-short core rows rows c mine in
-    rw (said-is core rows c)
+    rw (said-is core rows (needed rows) c (omega arith))
     (by-test (eqb (codeOf v) 11) (λ e. rw e (omega arith))
     (λ e. rw (e, length-append (each (rowLines core rows) rows) (coreLine core v)) (omega arith)))
 
@@ -165,18 +167,14 @@ rows-four (t ∷ ts) g =
     let here = shares (t .core) (length (t .times)) (g t (List·Memᴰ·head refl) .core .most) in
     rw (length-append (t .times) (allTimes ts)) (omega (arith, rows-four ts (λ u m. g u (List·Memᴰ·tail m))))
 
--- how many bounds the four cores have together
-onFour : List Task → ℕ
-onFour ts = needed (onCore 0 ts) + needed (onCore 1 ts) + needed (onCore 2 ts) + needed (onCore 3 ts)
-
--- no more than there are times
-four : (ts : List Task) → AllGood ts → onFour ts ≤ length (allTimes ts)
-unfolding onFour
-four ts g = omega (arith, parts-needed 0 ts, parts-needed 1 ts, parts-needed 2 ts, parts-needed 3 ts, rows-four ts g)
+-- the four cores have no more bounds than there are times
+four : (ts : List Task) → AllGood ts
+    → needed (onCore 0 ts) + needed (onCore 1 ts) + needed (onCore 2 ts) + needed (onCore 3 ts) ≤ length (allTimes ts)
+four ts g = rw (← parts-needed 0 ts, ← parts-needed 1 ts, ← parts-needed 2 ts, ← parts-needed 3 ts) (rows-four ts g)
 
 -- header 34, at most 1,024 lines of 29, four verdicts of 28
 pub good-short : (ts : List Task) → AllGood ts → length (allTimes ts) ≤ 1024 → length (goodText ts) ≤ 29842
-unfolding goodText each listed header line onFour
+unfolding goodText each listed header line
 good-short ts g few =
     let c = coreText ts in
     let short : (core : ℕ) → core ≤ 3 → length (c core) ≤ needed (onCore core ts) * 29 + 28 = λ core h. core-short ts core h g in

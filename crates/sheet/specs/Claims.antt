@@ -1,20 +1,21 @@
 -- What is claimed of the printed text, as statements.
 use Prim.Native.Nat.{ℕ, _+_, _^_, _≤_, _<_}
 use mathlib.Core.Path.{_≡_}
-use mathlib.Core.List.{List}
+use mathlib.Core.List.{List, [], _∷_}
 use lib.ListN.{length, take}
 use lib.Dec.{eqb}
 use Rattle.lists.specs.Lists.{pick, total, upTo, Place}
 use Rattle.numbers.specs.Numbers.{Bytes}
 use Rattle.model.specs.Task.{Task, parts}
 use Rattle.model.specs.Bounds.{onCore, bound}
+use Rattle.table.specs.declared.Verdict.{Verdict}
 use Rattle.table.specs.declared.Verdict.the-variants.{Good}
 use Rattle.table.specs.Verdicts.{codeOf}
-use Rattle.files.specs.Reading.{go, decode}
+use Rattle.files.specs.Reading.{stop, go, decode}
 use Rattle.analysis.specs.Analysis.{needed}
 use Rattle.sheet.specs.declared.Printed.{Printed}
 use Rattle.text.specs.Text.{linesIn}
-use Rattle.sheet.specs.Sheet.{header, boundLine, coreLine, saidOf, sheetText, Prints}
+use Rattle.sheet.specs.Sheet.{header, boundLine, coreLine, fileLine, saidOf, sheetText, Prints}
 
 -- header 34, each of at most 1,024 bounds 29, each of four verdict lines 28
 abbrev pub TextIsShort : Type 0
@@ -55,3 +56,7 @@ LineOfItsCore = (s : List ℕ) (tasks : List Task) (next : ℕ) → decode s ≡
 abbrev pub NoOtherLine : Type 0
 NoOtherLine = (s : List ℕ) (tasks : List Task) (next : ℕ) → decode s ≡ go tasks next
     → Place (linesIn (sheetText s)) 0 header × (length (linesIn (sheetText s)) ≡ linesBefore tasks 4)
+
+-- a file with a reading code prints one line
+abbrev pub LineOfARefusal : Type 0
+LineOfARefusal = (s : List ℕ) (v : Verdict) → decode s ≡ stop v → linesIn (sheetText s) ≡ fileLine v ∷ []

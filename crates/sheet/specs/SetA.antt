@@ -29,8 +29,8 @@ headerA =
     ∷ [])
 
 -- 0 1 1 1 5; 0 2 1 5 10; 0 2 2 8 10; 0 3 1 7 20; 0 3 2 10 20
-abbrev boundsA : List ℕ
-boundsA =
+abbrev boundLinesA : List ℕ
+boundLinesA =
     48 ∷ 32 ∷ 49 ∷ 32 ∷ 49 ∷ 32 ∷ 49 ∷ 32 ∷ 53 ∷ 10
     ∷ 48 ∷ 32 ∷ 50 ∷ 32 ∷ 49 ∷ 32 ∷ 53 ∷ 32 ∷ 49 ∷ 48 ∷ 10
     ∷ 48 ∷ 32 ∷ 50 ∷ 32 ∷ 50 ∷ 32 ∷ 56 ∷ 32 ∷ 49 ∷ 48 ∷ 10
@@ -44,7 +44,7 @@ verdictA d = coreA ++ (d ∷ 32 ∷ 99 ∷ 111 ∷ 100 ∷ 101 ∷ 32 ∷ 48 ∷
 
 -- the digits are 0 to 3
 abbrev pub reportA : List ℕ
-reportA = headerA ++ (boundsA ++ each verdictA (48 ∷ 49 ∷ 50 ∷ 51 ∷ []))
+reportA = headerA ++ (boundLinesA ++ each verdictA (48 ∷ 49 ∷ 50 ∷ 51 ∷ []))
 
 -- the printed bytes are these
 abbrev pub SetAReport : Type 0

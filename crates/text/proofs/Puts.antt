@@ -1,10 +1,12 @@
 -- Text put into lent bytes piece by piece: what is still to be put, put where it goes, is the whole. Assumes nothing.
-use Prim.Native.Nat.{ℕ, _+_}
+use Prim.Native.Nat.{ℕ, _+_, _≤_, _<_}
 use native.Mathlib.Omega.{arith}
 use mathlib.Core.Path.{_≡_, refl, sym, ap, _∙_}
 use mathlib.Core.List.{List, [], _∷_, _++_}
-use lib.ListN.{length, set, length-append}
+use lib.ListN.{length, drop, set, length-append}
 use lib.Seq.{sets, length-sets}
+use Rattle.lists.specs.Lists.{each, upTo}
+use Rattle.lists.proofs.Counted.{each-more, each-none}
 use Rattle.lists.proofs.Stores.{sets-append}
 use Rattle.text.specs.Promises.{Fits, PutAt}
 
@@ -18,6 +20,14 @@ pub record Putting (whole out₀ : List ℕ) (at : ℕ) (out : List ℕ) (p : �
 -- at first all is left
 pub starts : (whole out : List ℕ) (at : ℕ) → Fits whole at out → Putting whole out at out at whole
 starts whole out at h = record { fits = h; long = refl; size = refl; same = refl }
+
+-- the same text has the same room
+pub fits-as : {a b : List ℕ} {at : ℕ} {out : List ℕ} → a ≡ b → Fits a at out → Fits b at out
+fits-as e h = rw e at h
+
+-- and is put the same
+pub put-as : {a b : List ℕ} {at : ℕ} {out : List ℕ} {q : ℕ} {out′ : List ℕ} → a ≡ b → PutAt b at out q out′ → PutAt a at out q out′
+put-as e put = rw e put
 
 -- one byte
 pub byte-put : (out : List ℕ) (p b : ℕ) → PutAt (b ∷ []) p out (p + 1) (set out p b)
@@ -47,3 +57,19 @@ module _ {whole out₀ : List ℕ} {at : ℕ} {out : List ℕ} {p : ℕ} {rest :
   -- once the last piece is put too
   pub last : {q : ℕ} {out′ : List ℕ} → PutAt rest p out q out′ → PutAt whole at out₀ q out′
   last put = record { place = omega (arith, k .size, put .place); stored = put .stored ∙ sym (k .same) }
+
+-- what is left are the pieces from piece i on, n in all
+module _ (f : ℕ → List ℕ) (n i : ℕ) {whole out₀ : List ℕ} {at : ℕ} {out : List ℕ} {p : ℕ}
+    (k : Putting whole out₀ at out p (each f (drop i (upTo n)))) where
+  -- the next piece has room
+  pub piece-room : i < n → Fits (f i) p out
+  piece-room h = room k (f i) _ (each-more f n i h)
+
+  -- and once it is put, the others are left
+  pub piece-turn : i < n → {q : ℕ} {out′ : List ℕ} → PutAt (f i) p out q out′
+      → Putting whole out₀ at out′ q (each f (drop (i + 1) (upTo n)))
+  piece-turn h put = turn k (f i) _ (each-more f n i h) put
+
+  -- past the last the whole is put
+  pub pieces-end : n ≤ i → PutAt whole at out₀ p out
+  pieces-end h = ends k (each-none f n i h)

@@ -8,8 +8,20 @@ use mathlib.Core.List.{List, [], _∷_, _++_, map, append-assoc, append-nil}
 use lib.Dec.{eqb, ltb}
 use Rattle.lists.specs.Lists.{any, each, listed}
 use Rattle.lists.proofs.Tests.{by-test}
-use Rattle.lists.proofs.Anys.{none-passes, none-append}
-use Rattle.text.specs.Text.{space, lineFeed, digit, decimalIn, decimal, line, inFirst, linesIn}
+use Rattle.lists.proofs.Anys.{none-cons, none-append}
+use Rattle.text.specs.Text.{space, lineFeed, digit, decimalIn, decimal, line, inFirst, linesIn, LinesAreTheText}
+
+-- one after another, the lines of a text are the text
+pub lines-are-the-text : LinesAreTheText
+unfolding linesIn inFirst each
+lines-are-the-text [] = refl
+lines-are-the-text (b ∷ bs) =
+    by-test (eqb b lineFeed) (λ e. rw (e, lines-are-the-text bs))
+    (λ e. rw e (in-first (linesIn bs) ∙ ap (_∷_ b) (lines-are-the-text bs)))
+  where
+    in-first : (ls : List (List ℕ)) → each (λ l. l) (inFirst b ls) ≡ b ∷ each (λ l. l) ls
+    in-first [] = refl
+    in-first (l ∷ ls) = refl
 
 -- ---- words
 
@@ -50,7 +62,7 @@ longer-line : (w rest l : List ℕ) (ls : List (List ℕ)) → any isFeed w ≡ 
 unfolding linesIn inFirst
 longer-line [] rest l ls e q = q
 longer-line (b ∷ w) rest l ls e q =
-    let n = none-passes isFeed b w e in
+    let n = none-cons isFeed b w e in
     rw (n .0, longer-line w rest l ls (n .1) q)
 
 -- a text is these whole lines, whatever stands behind it
@@ -61,10 +73,10 @@ pub record InLines (text : List ℕ) (ls : List (List ℕ)) : Type 0 where
 pub line-alone : (w : List ℕ) (ws : List (List ℕ)) → hasFeed (w ∷ ws) ≡ false → InLines (line (w ∷ ws)) (line (w ∷ ws) ∷ [])
 unfolding line linesIn inFirst
 line-alone w [] e =
-    let plain = none-passes (any isFeed) w [] e .0 in
+    let plain = none-cons (any isFeed) w [] e .0 in
     record { lines = λ rest. rw append-assoc (longer-line w (lineFeed ∷ rest) (lineFeed ∷ []) (linesIn rest) plain refl) }
 line-alone w (v ∷ ws) e =
-    let n = none-passes (any isFeed) w (v ∷ ws) e in
+    let n = none-cons (any isFeed) w (v ∷ ws) e in
     let others : (rest : List ℕ) → linesIn (space ∷ (line (v ∷ ws) ++ rest)) ≡ (space ∷ line (v ∷ ws)) ∷ linesIn rest
     = λ rest. rw (line-alone v ws (n .1) .lines rest) in
     record { lines = λ rest. simp append-assoc (longer-line w (space ∷ (line (v ∷ ws) ++ rest)) _ (linesIn rest) (n .0) (others rest)) }

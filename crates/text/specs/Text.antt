@@ -3,7 +3,7 @@ use Prim.Native.Nat.{ℕ, zero, suc, _+_, _/_, _%_, _≤_, _<_}
 use mathlib.Core.Path.{_≡_}
 use mathlib.Core.List.{List, [], _∷_, _++_}
 use lib.Dec.{eqb, ltb}
-use Rattle.lists.specs.Lists.{pick}
+use Rattle.lists.specs.Lists.{pick, each}
 
 abbrev pub space : ℕ
 space = 32
@@ -44,3 +44,7 @@ inFirst b (l ∷ ls) = (b ∷ l) ∷ ls
 unfoldable pub linesIn : List ℕ → List (List ℕ)
 linesIn [] = []
 linesIn (b ∷ bs) = pick (eqb b lineFeed) ((b ∷ []) ∷ linesIn bs) (inFirst b (linesIn bs))
+
+-- one after another they are the text
+abbrev pub LinesAreTheText : Type 0
+LinesAreTheText = (text : List ℕ) → each (λ l. l) (linesIn text) ≡ text

@@ -1,4 +1,4 @@
-// Bytes that people read, put at a place of lent bytes, one after another. Inner workings of what prints: each asks for room.
+// Bytes that people read, put at a place of lent bytes, one after another: inner workings of what prints, each with a `requires` for room.
 ghost use Prim.Native.Nat.{_<_};
 ghost use mathlib.Core.List.{[], _∷_, _++_, map};
 ghost use lib.ListN.{length};

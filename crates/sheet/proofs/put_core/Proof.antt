@@ -8,9 +8,8 @@ use Rattle.table.specs.declared.Row.{Row}
 use Rattle.table.specs.declared.Verdict.{Verdict}
 use Rattle.table.specs.Verdicts.{codeOf}
 use Rattle.sheet.specs.Sheet.{coreLine}
-use Rattle.text.specs.Promises.{Fits, PutAt}
 use Rattle.sheet.specs.Promises.{rowsText, coreBytes}
-use Rattle.text.proofs.Puts.{starts, room, turn, last}
+use Rattle.text.proofs.Puts.{starts, fits-as, put-as, room, turn, last}
 use Rattle.sheet.proofs.put_core.Statement.{statement}
 use Rattle.sheet.proofs.put_core.Tie as tie
 
@@ -19,15 +18,6 @@ module _ (core : ℕ) (rows : List Row) (bounds : List ℕ) (v : Verdict) {code 
   only : code ≡ 11 → coreBytes core rows bounds v ≡ coreLine core v
   unfolding coreBytes
   only e = rw (eq-eqb (codeOf v) 11 (sym own ∙ e))
-
-  -- it has room
-  only-fits : {at : ℕ} {out : List ℕ} → code ≡ 11 → Fits (coreBytes core rows bounds v) at out → Fits (coreLine core v) at out
-  only-fits e h = rw (only e) at h
-
-  -- and is the whole
-  only-put : {at q : ℕ} {out out′ : List ℕ} → code ≡ 11 → PutAt (coreLine core v) at out q out′
-      → PutAt (coreBytes core rows bounds v) at out q out′
-  only-put e put = rw (only e) put
 
   -- else the lines and the verdict
   both : (code ≡ 11 → ⊥) → coreBytes core rows bounds v ≡ rowsText core rows bounds ++ coreLine core v
@@ -39,7 +29,7 @@ code-of-requires c κs = search needs
 
 put-core-line-requires : tie.Need-put-core-line-requires
 put-core-line-requires c κs =
-    only-fits _ _ _ _ (c .before .before .code-of .ensures) (c .before .if1 .taken) (c .before .before .before .before .before .pre .1)
+    fits-as (only _ _ _ _ (c .before .before .code-of .ensures) (c .before .if1 .taken)) (c .before .before .before .before .before .pre .1)
 
 same-length : tie.Need-same-length
 same-length c = search needs
@@ -49,7 +39,7 @@ returns c =
     let c2 = c .before .before in
     let c4 = c2 .before .before in
     let c5 = c4 .before in
-    only-put _ _ _ _ (c5 .code-of .ensures) (c4 .if1 .taken) (c2 .put-core-line .ensures)
+    put-as (only _ _ _ _ (c5 .code-of .ensures) (c4 .if1 .taken)) (c2 .put-core-line .ensures)
 
 put-rows-requires : tie.Need-put-rows-requires
 put-rows-requires c κs =

@@ -1,30 +1,23 @@
 -- `sheet::put_cores` meets its contract: the header, then core by core. Assumes nothing.
-use Prim.Native.Nat.{ℕ, _+_, _-_, _≤_, _<_}
+use Prim.Native.Nat.{ℕ, _-_}
 use native.Mathlib.Omega.{arith}
 use borrow.Author.Needs.{needs}
-use mathlib.Core.Path.{_≡_, refl}
+use mathlib.Core.Path.{refl}
 use mathlib.Core.List.{List}
 use lib.ListN.{drop}
 use Rattle.table.specs.declared.Table.{Table}
-use Rattle.table.specs.Verdicts.{codeOf}
 use Rattle.table.specs.Memory.{tasksOf}
-use Rattle.table.specs.Faults.{faultOf}
 use Rattle.text.specs.Text.{line}
 use Rattle.lists.specs.Lists.{each, upTo}
 use Rattle.sheet.specs.Sheet.{header, coreText, goodText}
 use Rattle.text.specs.Promises.{Fits, PutAt}
-use Rattle.text.proofs.Puts.{Putting, starts, room, turn, ends, last}
-use Rattle.lists.proofs.Counted.{each-more, each-none}
+use Rattle.text.proofs.Puts.{Putting, starts, room, turn, last, piece-room, piece-turn, pieces-end}
 use Rattle.sheet.proofs.put_cores.Statement.{statement}
 use Rattle.sheet.proofs.put_cores.Tie as tie
 
 -- the cores' texts, from where the header ends
 abbrev cores : Table → ℕ → List ℕ
 cores t core = each (coreText (tasksOf t)) (drop core (upTo 4))
-
-record Cores (t : Table) (out₀ : List ℕ) (p₀ : ℕ) (out : List ℕ) (p core : ℕ) : Type 0 where
-  fine : codeOf (faultOf t) ≡ 0
-  putting : Putting (cores t 0) out₀ p₀ out p (cores t core)
 
 module _ (t : Table) (out : List ℕ) (h : Fits (goodText (tasksOf t)) 0 out) where
   -- the header stands first
@@ -38,34 +31,12 @@ module _ (t : Table) (out : List ℕ) (h : Fits (goodText (tasksOf t)) 0 out) wh
     unfolding goodText
     behind = turn (starts _ out 0 h) header (cores t 0) refl put
 
-    -- from there the loop goes
-    begins : codeOf (faultOf t) ≡ 0 → Cores t out′ p out′ p 0
-    begins e = record { fine = e; putting = starts (cores t 0) out′ p (behind .fits) }
-
     -- and where it ends the whole is put
     ending : {q : ℕ} {out″ : List ℕ} → PutAt (cores t 0) p out′ q out″ → PutAt (goodText (tasksOf t)) 0 out q out″
     ending put′ = last behind put′
 
-module _ {t : Table} {out₀ : List ℕ} {p₀ : ℕ} {out : List ℕ} {p core : ℕ} (k : Cores t out₀ p₀ out p core) where
-  module _ (h : core < 4) where
-    -- the next core has room
-    fits : Fits (coreText (tasksOf t) core) p out
-    fits = room (k .putting) (coreText (tasksOf t) core) _ (each-more (coreText (tasksOf t)) 4 core h)
-
-    -- one core more
-    step : {q : ℕ} {out′ : List ℕ} → PutAt (coreText (tasksOf t) core) p out q out′ → Cores t out₀ p₀ out′ q (core + 1)
-    step put =
-        record {
-          fine = k .fine;
-          putting = turn (k .putting) (coreText (tasksOf t) core) _ (each-more (coreText (tasksOf t)) 4 core h) put;
-        }
-
-  -- all cores
-  done : 4 ≤ core → PutAt (cores t 0) p₀ out₀ p out
-  done h = ends (k .putting) (each-none (coreText (tasksOf t)) 4 core h)
-
 abbrev Inv-loop : tie.InvT-loop
-Inv-loop out₀ t p₀ core₀ out p core = Cores t out₀ p₀ out p core
+Inv-loop out₀ t p₀ core₀ out p core = Putting (cores t 0) out₀ p₀ out p (cores t core)
 
 abbrev μ-loop : tie.MeasureT-loop
 μ-loop out₀ t p₀ core₀ out p core = 4 - core
@@ -82,11 +53,13 @@ unfolding header line
 loop-holds c =
     let c2 = c .before .before in
     let c6 = c2 .before .before .before .before in
-    begins _ _ (c6 .pre .1) (c2 .put-word .ensures) (c6 .pre .0)
+    starts _ _ _ (behind _ _ (c6 .pre .1) (c2 .put-word .ensures) .fits)
 
 put-analysed-requires : tie.Need-put-analysed-requires Inv-loop μ-loop
 put-analysed-requires c κs =
-    (omega arith, c .before .before .loop .inv .fine, fits (c .before .before .loop .inv) (c .before .loop-test .taken))
+    let c2 = c .before .before in
+    let c9 = c2 .before .before .before .before .before .before .before in
+    (omega arith, c9 .pre .0, piece-room _ _ _ (c2 .loop .inv) (c .before .loop-test .taken))
 
 add-core : tie.Need-add-core Inv-loop μ-loop
 add-core c = omega arith
@@ -99,7 +72,7 @@ loop-again c =
     let c2 = c .before .before in
     let c4 = c2 .before .before in
     let c5 = c4 .before in
-    step (c5 .loop .inv) (c4 .loop-test .taken) (c2 .put-analysed .ensures)
+    piece-turn _ _ _ (c5 .loop .inv) (c4 .loop-test .taken) (c2 .put-analysed .ensures)
 
 same-length : tie.Need-same-length Inv-loop μ-loop
 same-length c = search needs
@@ -110,7 +83,7 @@ returns c =
     let c1 = c .before in
     let c4 = c1 .before .before .before in
     let c8 = c4 .before .before .before .before in
-    ending _ _ (c8 .pre .1) (c4 .put-word .ensures) (done (c1 .loop .inv) (c .loop-test .left))
+    ending _ _ (c8 .pre .1) (c4 .put-word .ensures) (pieces-end _ _ _ (c1 .loop .inv) (c .loop-test .left))
 
 pub put-cores-spec : {M : Type 1} → statement M
 put-cores-spec =

@@ -1,5 +1,5 @@
 -- `sheet::put_row` meets its contract: a line for each bound. Assumes nothing.
-use Prim.Native.Nat.{ℕ, _+_, _-_, _≤_, _<_}
+use Prim.Native.Nat.{ℕ, _+_, _-_}
 use native.Mathlib.Omega.{arith}
 use borrow.Author.Needs.{needs}
 use mathlib.Core.List.{List}
@@ -7,10 +7,8 @@ use lib.ListN.{length, getD, drop}
 use Rattle.table.specs.declared.Row.{Row}
 use Rattle.lists.specs.Lists.{each, upTo}
 use Rattle.sheet.specs.Sheet.{boundLine}
-use Rattle.text.specs.Promises.{Fits, PutAt}
 use Rattle.sheet.specs.Promises.{rowText}
-use Rattle.text.proofs.Puts.{Putting, starts, room, turn, ends}
-use Rattle.lists.proofs.Counted.{each-more, each-none}
+use Rattle.text.proofs.Puts.{Putting, starts, piece-room, piece-turn, pieces-end}
 use Rattle.sheet.proofs.put_row.Statement.{statement}
 use Rattle.sheet.proofs.put_row.Tie as tie
 
@@ -18,50 +16,22 @@ use Rattle.sheet.proofs.put_row.Tie as tie
 bound-at : ℕ → Row → List ℕ → ℕ → List ℕ
 bound-at core row bounds r = boundLine core (row .id) (r + 1) (getD bounds r 0) (row .deadline)
 
-record Lines (core : ℕ) (row : Row) (bounds out₀ : List ℕ) (at : ℕ) (out : List ℕ) (p r : ℕ) : Type 0 where
-  few : length bounds ≤ 1024
-  upto : r ≤ length bounds
-  putting : Putting (rowText core row bounds) out₀ at out p (each (bound-at core row bounds) (drop r (upTo (length bounds))))
-
--- at first all lines are left
-begins : (core : ℕ) (row : Row) (bounds out : List ℕ) (at : ℕ) → length bounds ≤ 1024 → Fits (rowText core row bounds) at out
-    → Lines core row bounds out at out at 0
-unfolding rowText bound-at
-begins core row bounds out at few h = record { few = few; upto = omega arith; putting = starts _ out at h }
-
-module _ {core : ℕ} {row : Row} {bounds out₀ : List ℕ} {at : ℕ} {out : List ℕ} {p r : ℕ} (l : Lines core row bounds out₀ at out p r) where
-  module _ (h : r < length bounds) where
-    -- the next line has room
-    fits : Fits (bound-at core row bounds r) p out
-    fits = room (l .putting) (bound-at core row bounds r) _ (each-more (bound-at core row bounds) (length bounds) r h)
-
-    -- one line more
-    step : {q : ℕ} {out′ : List ℕ} → PutAt (bound-at core row bounds r) p out q out′ → Lines core row bounds out₀ at out′ q (r + 1)
-    step put =
-        record {
-          few = l .few;
-          upto = omega arith;
-          putting = turn (l .putting) (bound-at core row bounds r) _ (each-more (bound-at core row bounds) (length bounds) r h) put;
-        }
-
-  -- all lines
-  done : length bounds ≤ r → PutAt (rowText core row bounds) at out₀ p out
-  done h = ends (l .putting) (each-none (bound-at core row bounds) (length bounds) r h)
-
 abbrev Inv-loop : tie.InvT-loop
-Inv-loop out₀ at core row bounds p₀ r₀ out p r = Lines core row bounds out₀ at out p r
+Inv-loop out₀ at core row bounds p₀ r₀ out p r =
+    Putting (rowText core row bounds) out₀ at out p (each (bound-at core row bounds) (drop r (upTo (length bounds))))
 
 abbrev μ-loop : tie.MeasureT-loop
 μ-loop out₀ at core row bounds p₀ r₀ out p r = length bounds - r
 
 loop-holds : tie.Need-loop-holds Inv-loop μ-loop
-loop-holds c = begins _ _ _ _ _ (c .before .before .pre .0) (c .before .before .pre .1)
+unfolding rowText bound-at
+loop-holds c = starts _ _ _ (c .before .before .pre .1)
 
 cast-put-bound : tie.Need-cast-put-bound Inv-loop μ-loop
-cast-put-bound c = omega (arith, c .before .before .loop .inv .few)
+cast-put-bound c = omega (arith, c .before .before .before .before .before .pre .0)
 
 mul-put-bound : tie.Need-mul-put-bound Inv-loop μ-loop
-mul-put-bound c = omega (arith, c .before .before .loop .inv .few)
+mul-put-bound c = omega (arith, c .before .before .before .before .before .pre .0)
 
 shared-slice-read-put-bound : tie.Need-shared-slice-read-put-bound Inv-loop μ-loop
 shared-slice-read-put-bound c = search needs
@@ -71,7 +41,7 @@ unfolding bound-at
 put-bound-requires c κs =
     let c2 = c .before .before in
     let c3 = c2 .before in
-    (omega (arith, c3 .loop .inv .few), fits (c3 .loop .inv) (c2 .loop-test .taken))
+    (omega (arith, c3 .before .before .before .pre .0), piece-room _ _ _ (c3 .loop .inv) (c2 .loop-test .taken))
 
 add-r : tie.Need-add-r Inv-loop μ-loop
 add-r c = search needs
@@ -85,13 +55,13 @@ loop-again c =
     let c2 = c .before .before in
     let c5 = c2 .before .before .before in
     let c6 = c5 .before in
-    step (c6 .loop .inv) (c5 .loop-test .taken) (c2 .put-bound .ensures)
+    piece-turn _ _ _ (c6 .loop .inv) (c5 .loop-test .taken) (c2 .put-bound .ensures)
 
 same-length : tie.Need-same-length Inv-loop μ-loop
 same-length c = search needs
 
 returns : tie.Need-returns Inv-loop μ-loop
-returns c = done (c .before .loop .inv) (c .loop-test .left)
+returns c = pieces-end _ _ _ (c .before .loop .inv) (c .loop-test .left)
 
 pub put-row-spec : {M : Type 1} → statement M
 put-row-spec =

@@ -19,9 +19,8 @@ use Rattle.sheet.proofs.put_rows.Statement.{statement}
 use Rattle.sheet.proofs.put_rows.Tie as tie
 
 record Rows (core : ℕ) (t : Table) (bounds out₀ : List ℕ) (at : ℕ) (out : List ℕ) (p used i : ℕ) : Type 0 where
-  few : t .count ≤ 64
+  enough : BoundsFor core t (length bounds)
   rows-long : t .count ≤ length (t .rows)
-  most : length bounds ≤ 1024
   left : used + total (partsOn core) (drop i (usedRows t)) ≤ length bounds
   putting : Putting (rowsText core (usedRows t) bounds) out₀ at out p (rowsText core (drop i (usedRows t)) (drop used bounds))
 
@@ -29,13 +28,7 @@ record Rows (core : ℕ) (t : Table) (bounds out₀ : List ℕ) (at : ℕ) (out 
 begins : (core : ℕ) (t : Table) (bounds out : List ℕ) (at : ℕ) → length (t .rows) ≡ 64 → BoundsFor core t (length bounds)
     → Fits (rowsText core (usedRows t) bounds) at out → Rows core t bounds out at out at 0 0
 begins core t bounds out at long e h =
-    record {
-      few = e .rows;
-      rows-long = omega (arith, e .rows);
-      most = e .most;
-      left = omega (arith, e .parts);
-      putting = starts _ out at h;
-    }
+    record { enough = e; rows-long = omega (arith, e .rows); left = omega (arith, e .parts); putting = starts _ out at h }
 
 module _ {core : ℕ} {t : Table} {bounds out₀ : List ℕ} {at : ℕ} {out : List ℕ} {p used i : ℕ}
     (k : Rows core t bounds out₀ at out p used i) where
@@ -61,7 +54,7 @@ module _ {core : ℕ} {t : Table} {bounds out₀ : List ℕ} {at : ℕ} {out : L
     -- no more than a table has times
     own-few : length own ≤ 1024
     unfolding own
-    own-few = omega (arith, part-length used n bounds (omega (arith, left-next)), left-next, k .most)
+    own-few = omega (arith, part-length used n bounds (omega (arith, left-next)), left-next, k .enough .most)
 
     -- the lines of the row, then those of the others
     cut : rowsText core (drop i (usedRows t)) (drop used bounds)
@@ -77,9 +70,8 @@ module _ {core : ℕ} {t : Table} {bounds out₀ : List ℕ} {at : ℕ} {out : L
     step : {q : ℕ} {out′ : List ℕ} → PutAt (rowText core row own) p out q out′ → Rows core t bounds out₀ at out′ q (used + n) (i + 1)
     step put =
         record {
-          few = k .few;
+          enough = k .enough;
           rows-long = k .rows-long;
-          most = k .most;
           left = left-next;
           putting = turn (k .putting) (rowText core row own) _ cut put;
         }
@@ -103,43 +95,39 @@ loop-holds c =
     begins _ _ _ _ _ rows (c .before .before .pre .0) (c .before .before .pre .1)
 
 mul-row : tie.Need-mul-row Inv-loop μ-loop
-mul-row c = omega (arith, c .before .loop .inv .few)
+mul-row c = omega (arith, c .before .loop .inv .enough .rows)
 
 element-copy-out-row : tie.Need-element-copy-out-row Inv-loop μ-loop
-element-copy-out-row c = omega (arith, c .before .loop .inv .few)
+element-copy-out-row c = omega (arith, c .before .loop .inv .enough .rows)
 
 parts-on-requires : tie.Need-parts-on-requires Inv-loop μ-loop
 parts-on-requires c κs = search needs
 
-add-end : tie.Need-add-end Inv-loop μ-loop
-add-end c =
+-- the row's bounds end within those that are lent, which are no more than a table's times
+bounds-end : (c : tie.After-parts-on Inv-loop μ-loop)
+    → (c .before .before .before .loop .used + c .parts-on .result
+    ≤ length (c .before .before .before .before .before .before .args .bounds .now))
+    × (c .before .before .before .loop .used + c .parts-on .result ≤ 1024)
+bounds-end c =
     let c2 = c .before .before in
-    let c3 = c2 .before in
-    omega (arith, left-next (c3 .loop .inv) (c2 .loop-test .taken) _ (c .parts-on .ensures), c3 .loop .inv .most)
+    let k = c2 .before .loop .inv in
+    let next = left-next k (c2 .loop-test .taken) _ (c .parts-on .ensures) in
+    (omega (arith, next), omega (arith, next, k .enough .most))
+
+add-end : tie.Need-add-end Inv-loop μ-loop
+add-end c = omega (arith, bounds-end c)
 
 mul-put-row : tie.Need-mul-put-row Inv-loop μ-loop
-mul-put-row c =
-    let c1 = c .before in
-    let c3 = c1 .before .before in
-    let c4 = c3 .before in
-    omega (arith, left-next (c4 .loop .inv) (c3 .loop-test .taken) _ (c1 .parts-on .ensures), c4 .loop .inv .most)
+mul-put-row c = omega (arith, bounds-end (c .before))
 
 sub-put-row : tie.Need-sub-put-row Inv-loop μ-loop
 sub-put-row c = omega arith
 
 part-put-row-start : tie.Need-part-put-row-start Inv-loop μ-loop
-part-put-row-start c =
-    let c1 = c .before in
-    let c3 = c1 .before .before in
-    let c4 = c3 .before in
-    omega (arith, left-next (c4 .loop .inv) (c3 .loop-test .taken) _ (c1 .parts-on .ensures), c4 .loop .inv .most)
+part-put-row-start c = omega (arith, bounds-end (c .before))
 
 part-put-row-end : tie.Need-part-put-row-end Inv-loop μ-loop
-part-put-row-end c =
-    let c1 = c .before in
-    let c3 = c1 .before .before in
-    let c4 = c3 .before in
-    omega (arith, left-next (c4 .loop .inv) (c3 .loop-test .taken) _ (c1 .parts-on .ensures), c4 .loop .inv .most)
+part-put-row-end c = omega (arith, bounds-end (c .before))
 
 put-row-requires : tie.Need-put-row-requires Inv-loop μ-loop
 unfolding own row

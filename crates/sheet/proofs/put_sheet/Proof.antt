@@ -12,7 +12,8 @@ use Rattle.table.specs.Faults.{faultOf}
 use Rattle.files.specs.declared.Loaded.{Loaded}
 use Rattle.files.specs.Reading.{readAnswer}
 use Rattle.sheet.specs.Sheet.{fileLine, goodText, sheetText}
-use Rattle.text.specs.Promises.{Fits, PutAt}
+use Rattle.text.specs.Promises.{Fits}
+use Rattle.text.proofs.Puts.{fits-as, put-as}
 use Rattle.sheet.proofs.Files.{refused-text, good-text, good-table, text-is-short}
 use Rattle.sheet.proofs.put_sheet.Statement.{statement}
 use Rattle.sheet.proofs.put_sheet.Tie as tie
@@ -29,27 +30,18 @@ module _ {s : List ℕ} {l : Loaded} (r : Read s l) where
   fits h = record { room = omega (arith, text-is-short s (r .bytes) (r .few)) }
 
   module _ {k : ℕ} (code : k ≡ codeOf (l .verdict)) where
-    module _ (bad : k ≡ 0 → ⊥) where
-      -- a refused file: its line has room
-      line-fits : {out : List ℕ} → 29842 ≤ length out → Fits (fileLine (l .verdict)) 0 out
-      line-fits {out} h = rw (refused-text s l (r .same) (λ z. bad (code ∙ z))) at (fits {out = out} h)
-
-      -- and is the text
-      line-put : {q : ℕ} {out out′ : List ℕ} → PutAt (fileLine (l .verdict)) 0 out q out′ → PutAt (sheetText s) 0 out q out′
-      line-put put = rw (refused-text s l (r .same) (λ z. bad (code ∙ z))) put
+    -- a refused file prints its line
+    refused-line : (k ≡ 0 → ⊥) → sheetText s ≡ fileLine (l .verdict)
+    refused-line bad = refused-text s l (r .same) (λ z. bad (code ∙ z))
 
     module _ (zero : k ≡ 0) where
-      -- a good file: its table has no fault
+      -- a good one its cores
+      good-cores : sheetText s ≡ goodText (tasksOf (l .table))
+      good-cores = good-text s l (r .same) (sym code ∙ zero)
+
+      -- whose table has no fault
       fine : codeOf (faultOf (l .table)) ≡ 0
       fine = good-table s l (r .same) (sym code ∙ zero)
-
-      -- its cores have room
-      cores-fit : {out : List ℕ} → 29842 ≤ length out → Fits (goodText (tasksOf (l .table))) 0 out
-      cores-fit {out} h = rw (good-text s l (r .same) (sym code ∙ zero)) at (fits {out = out} h)
-
-      -- and are the text
-      cores-put : {q : ℕ} {out out′ : List ℕ} → PutAt (goodText (tasksOf (l .table))) 0 out q out′ → PutAt (sheetText s) 0 out q out′
-      cores-put put = rw (good-text s l (r .same) (sym code ∙ zero)) put
 
 -- what is known once the file is read
 read-of : (c : tie.After-read) → Read (c .before .before .before .args .bytes .now) (c .read .result)
@@ -67,7 +59,7 @@ put-file-line-requires c κs =
     let c2 = c1 .before in
     let c3 = c2 .before in
     let c6 = c3 .before .before .before in
-    line-fits (read-of (c3)) (c2 .code-of .ensures) (c1 .if1 .taken) (c6 .pre)
+    fits-as (refused-line (read-of c3) (c2 .code-of .ensures) (c1 .if1 .taken)) (fits (read-of c3) (c6 .pre))
 
 same-length : tie.Need-same-length
 same-length c = search needs
@@ -78,7 +70,7 @@ returns c =
     let c4 = c2 .before .before in
     let c5 = c4 .before in
     let c6 = c5 .before in
-    line-put (read-of (c6)) (c5 .code-of .ensures) (c4 .if1 .taken) (c2 .put-file-line .ensures)
+    put-as (refused-line (read-of c6) (c5 .code-of .ensures) (c4 .if1 .taken)) (c2 .put-file-line .ensures)
 
 put-cores-requires : tie.Need-put-cores-requires
 put-cores-requires c κs =
@@ -86,8 +78,8 @@ put-cores-requires c κs =
     let c2 = c1 .before in
     let c3 = c2 .before in
     let c6 = c3 .before .before .before in
-    let r = read-of (c3) in
-    (fine r (c2 .code-of .ensures) (c1 .if1 .left), cores-fit r (c2 .code-of .ensures) (c1 .if1 .left) (c6 .pre))
+    let r = read-of c3 in
+    (fine r (c2 .code-of .ensures) (c1 .if1 .left), fits-as (good-cores r (c2 .code-of .ensures) (c1 .if1 .left)) (fits r (c6 .pre)))
 
 same-length-2 : tie.Need-same-length-2
 same-length-2 c = search needs
@@ -98,7 +90,7 @@ returns-2 c =
     let c4 = c2 .before .before in
     let c5 = c4 .before in
     let c6 = c5 .before in
-    cores-put (read-of (c6)) (c5 .code-of .ensures) (c4 .if1 .left) (c2 .put-cores .ensures)
+    put-as (good-cores (read-of c6) (c5 .code-of .ensures) (c4 .if1 .left)) (c2 .put-cores .ensures)
 
 pub put-sheet-spec : {M : Type 1} → statement M
 put-sheet-spec =

@@ -1,47 +1,33 @@
 -- `text::put_bytes` meets its contract: byte by byte. Assumes nothing.
-use Prim.Native.Nat.{ℕ, _+_, _-_, _≤_, _<_}
+use Prim.Native.Nat.{ℕ, _+_, _-_, _<_}
 use native.Mathlib.Numerals.{add-one}
 use native.Mathlib.Omega.{arith}
 use borrow.Author.Needs.{needs}
-use mathlib.Core.Path.{_≡_}
-use mathlib.Core.List.{List, [], _∷_, _++_}
+use mathlib.Core.List.{List, [], _∷_}
 use lib.ListN.{length, getD, drop, set, length-drop, drop-of-length-le}
 use lib.Seq.{drop-cons}
-use Rattle.text.specs.Promises.{PutAt}
 use Rattle.text.proofs.Puts.{Putting, starts, byte-put, turn, ends}
 use Rattle.text.proofs.put_bytes.Statement.{statement}
 use Rattle.text.proofs.put_bytes.Tie as tie
 
-record Copying (bytes out₀ : List ℕ) (at : ℕ) (out : List ℕ) (p i : ℕ) : Type 0 where
-  upto : i ≤ length bytes
-  putting : Putting bytes out₀ at out p (drop i bytes)
+module _ {bytes out₀ : List ℕ} {at : ℕ} {out : List ℕ} {p i : ℕ}
+    (k : Putting bytes out₀ at out p (drop i bytes)) (h : i < length bytes) where
+  -- there is room for the next byte
+  here : p < length out
+  here = omega (arith, k .fits .room, length-drop i bytes)
 
-module _ {bytes out₀ : List ℕ} {at : ℕ} {out : List ℕ} {p i : ℕ} (k : Copying bytes out₀ at out p i) where
-  module _ (h : i < length bytes) where
-    -- the next byte, and those behind it
-    next : drop i bytes ≡ (getD bytes i 0 ∷ []) ++ drop (i + 1) bytes
-    next = rw (drop-cons bytes i 0 h, add-one)
-
-    -- there is room for it
-    here : p < length out
-    here = omega (arith, k .putting .fits .room, length-drop i bytes)
-
-    -- one byte more
-    step : Copying bytes out₀ at (set out p (getD bytes i 0)) (p + 1) (i + 1)
-    step = record { upto = omega arith; putting = turn (k .putting) _ _ next (byte-put out p (getD bytes i 0)) }
-
-  -- all bytes
-  done : length bytes ≤ i → PutAt bytes at out₀ p out
-  done h = ends (k .putting) (drop-of-length-le bytes h)
+  -- one byte more
+  step : Putting bytes out₀ at (set out p (getD bytes i 0)) (p + 1) (drop (i + 1) bytes)
+  step = turn k (getD bytes i 0 ∷ []) (drop (i + 1) bytes) (rw (drop-cons bytes i 0 h, add-one)) (byte-put out p (getD bytes i 0))
 
 abbrev Inv-loop : tie.InvT-loop
-Inv-loop out₀ at bytes p₀ i₀ out p i = Copying bytes out₀ at out p i
+Inv-loop out₀ at bytes p₀ i₀ out p i = Putting bytes out₀ at out p (drop i bytes)
 
 abbrev μ-loop : tie.MeasureT-loop
 μ-loop out₀ at bytes p₀ i₀ out p i = length bytes - i
 
 loop-holds : tie.Need-loop-holds Inv-loop μ-loop
-loop-holds c = record { upto = search needs; putting = starts _ _ _ (c .pre) }
+loop-holds c = starts _ _ _ (c .pre)
 
 shared-slice-read-out : tie.Need-shared-slice-read-out Inv-loop μ-loop
 shared-slice-read-out c = search needs
@@ -65,7 +51,7 @@ same-length : tie.Need-same-length Inv-loop μ-loop
 same-length c = search needs
 
 returns : tie.Need-returns Inv-loop μ-loop
-returns c = done (c .before .loop .inv) (c .loop-test .left)
+returns c = ends (c .before .loop .inv) (drop-of-length-le _ (c .loop-test .left))
 
 pub put-bytes-spec : {M : Type 1} → statement M
 put-bytes-spec =
