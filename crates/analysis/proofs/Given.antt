@@ -6,7 +6,7 @@ use mathlib.Core.Path.{_≡_, refl, subst}
 use mathlib.Core.Bool.{true, false}
 use mathlib.Core.List.{List}
 use Rattle.lists.specs.Lists.{over}
-use Rattle.lists.proofs.Tests.{never}
+use Rattle.lists.proofs.Tests.{by-test, never}
 use Rattle.model.specs.Task.{Task}
 use Rattle.table.specs.declared.Verdict.{Verdict}
 use Rattle.table.specs.declared.Verdict.the-variants.{Good, EndsEarly, Malformed, OutOfRange, IdTwice, PriorityTwice}
@@ -52,3 +52,8 @@ module _ (said v : Verdict) (rows : List Task) (room : List ℕ) (same : said �
 pub gives-same : {v w : Verdict} {rows : List Task} {room room′ : List ℕ} {r : Analysed} → v ≡ w → Gives v rows room r room′
     → Gives w rows room r room′
 gives-same {rows = rows} {room = room} {room′ = room′} {r = r} e g = subst (λ (x : Verdict). Gives x rows room r room′) e g
+
+-- an answer's verdict is what is said
+pub answered-verdict : (v : Verdict) (rows : List Task) → answered v rows .verdict ≡ v
+unfolding answered
+answered-verdict v rows = by-test (writes v) (λ e. rw e) (λ e. rw e)

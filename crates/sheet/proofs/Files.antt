@@ -1,7 +1,7 @@
 -- The text of a file: what reading says of it decides, and it is never longer than 29,842 bytes. Assumes nothing.
 use Prim.Native.Nat.{ℕ, _≤_, _<_}
 use native.Mathlib.Omega.{arith}
-use borrow.Author.Tests.{eq-eqb, ne-eqb, lt-ltb, le-ltb}
+use borrow.Author.Tests.{eq-eqb, ne-eqb}
 use mathlib.Core.Logic.{⊎-elim}
 use mathlib.Core.Path.{_≡_, refl, sym, ap, _∙_}
 use mathlib.Core.List.{List, map}
@@ -13,6 +13,7 @@ use Rattle.lists.proofs.PadStores.{pad-length}
 use Rattle.lists.proofs.Tests.{never, either}
 use Rattle.model.specs.Task.{Task}
 use Rattle.model.specs.Rows.{GoodTask}
+use Rattle.table.specs.declared.Verdict.the-variants.{Good}
 use Rattle.table.specs.Verdicts.{codeOf}
 use Rattle.table.specs.Memory.{zeroRow, rowOf, allTimes, stored, tasksOf}
 use Rattle.table.specs.Faults.{faultOf}
@@ -26,10 +27,11 @@ use Rattle.files.proofs.Enough.{enough-to-judge}
 use Rattle.files.proofs.Back.{file-back}
 use Rattle.files.proofs.Carried.{carried}
 use Rattle.files.proofs.Stops.{stop-fault}
-use Rattle.sheet.specs.Sheet.{fileLine, goodText, textOf, sheetText, printAnswer, printed, Prints}
-use Rattle.sheet.specs.declared.Printed.{Printed}
+use Rattle.sheet.specs.Sheet.{fileLine, goodText, textOf, sheetText, Prints}
+use Rattle.table.specs.declared.Written.{Written}
+use Rattle.table.proofs.Writes.{refuses-room, room-good, said, wrote-count, wrote-bytes, answers-agree}
 use Rattle.sheet.specs.Claims.{TextIsShort, TextIsPrinted, SheetOfTheFront}
-use Rattle.sheet.proofs.Short.{file-line-short, good-short}
+use Rattle.sheet.proofs.Short.{code-short, file-line-short, good-short}
 
 -- ---- what is read
 
@@ -88,8 +90,7 @@ text-is-short s bs few = of-step (decode s) refl
   where
     of-step : (x : Step (List Task)) → decode s ≡ x → length (textOf x) ≤ 29842
     of-step (stop v) e =
-        let code : codeOf v < 100 = omega (arith, stop-fault s v e .1) in
-        unfold textOf in omega (arith, file-line-short v code (omega (arith, carried s bs v e)))
+        unfold textOf in omega (arith, file-line-short v (code-short v) (omega (arith, carried s bs v e)))
     of-step (go ts n) e =
         let good = file-back s ts n e .good in
         let times : length (allTimes ts) ≤ 1024 = omega (arith, times-fit 0 ts (omega arith) (good .fine)) in
@@ -97,25 +98,24 @@ text-is-short s bs few = of-step (decode s) refl
 
 -- so it always fits that many bytes
 pub text-is-printed : TextIsPrinted
-unfolding printAnswer printed
 text-is-printed s bs few out r out′ p h =
-    let room = le-ltb (length out) (length (sheetText s)) (omega (arith, text-is-short s bs few)) in
-    let answer = rw room at (p .answer) in
-    let bytes = rw room at (p .bytes) in
-    (ap (λ x. x .verdict) answer, rw (answer, bytes) (take-over (sheetText s) out))
+    let fits : length (sheetText s) ≤ length out = omega (arith, text-is-short s bs few) in
+    let fine : r .verdict ≡ Good = sym (said Good (sheetText s) out r out′ p) ∙ room-good Good (sheetText s) out refl fits in (
+      fine,
+      rw (wrote-count Good (sheetText s) out r out′ p fine, wrote-bytes Good (sheetText s) out r out′ p fine) (take-over (sheetText s) out),
+    )
 
 -- what was written lies within the lent bytes
-pub count-within : {s out : List ℕ} {r : Printed} {out′ : List ℕ} → Prints s out r out′ → r .count ≤ length out′
-unfolding printAnswer printed
-count-within {s} {out} {r} {out′} p = ⊎-elim refused written (either (length out) (length (sheetText s)))
+pub count-within : (s : List ℕ) {out : List ℕ} {r : Written} {out′ : List ℕ} → Prints s out r out′ → r .count ≤ length out′
+count-within s {out} {r} {out′} p = ⊎-elim none some (either (length out) (length (sheetText s)))
   where
-    refused : length out < length (sheetText s) → r .count ≤ length out′
-    refused h =
-        let answer = rw (lt-ltb (length out) (length (sheetText s)) h) at (p .answer) in
-        omega (arith, ap (λ (x : Printed). x .count) answer)
+    none : length out < length (sheetText s) → r .count ≤ length out′
+    none h =
+        let refusal = refuses-room Good (sheetText s) out refl _ refl h in
+        omega (arith, ap (λ (x : Written). x .count) (answers-agree Good (sheetText s) out r out′ p _ _ refusal))
 
-    written : length (sheetText s) ≤ length out → r .count ≤ length out′
-    written h =
-        let room = le-ltb (length out) (length (sheetText s)) h in
-        let bytes = ap length (rw room at (p .bytes)) ∙ over-length (sheetText s) out h in
-        omega (arith, ap (λ (x : Printed). x .count) (rw room at (p .answer)))
+    some : length (sheetText s) ≤ length out → r .count ≤ length out′
+    some h =
+        let fine : r .verdict ≡ Good = sym (said Good (sheetText s) out r out′ p) ∙ room-good Good (sheetText s) out refl h in
+        let bytes = ap length (wrote-bytes Good (sheetText s) out r out′ p fine) ∙ over-length (sheetText s) out h in
+        omega (arith, wrote-count Good (sheetText s) out r out′ p fine)

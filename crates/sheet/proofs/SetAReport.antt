@@ -29,7 +29,7 @@ rules = 0
 
 -- the whole file
 rowsRead : ℕ
-unfolding numbersRead rules head allTimes reading.rowAt reading.rowsAt reading.endAt reading.decode
+unfolding numbersRead rules head each reading.rowAt reading.rowsAt reading.endAt reading.decode
 rowsRead = 0
 
 -- in the bounds

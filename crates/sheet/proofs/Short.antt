@@ -2,7 +2,7 @@
 use Prim.Native.Nat.{ℕ, zero, suc, _+_, _*_, _^_, _≤_, _<_}
 use native.Mathlib.Omega.{arith}
 use mathlib.Core.Path.{_≡_, refl, _∙_}
-use mathlib.Core.List.{List, [], _∷_, _++_, map, List·Memᴰ·head, List·Memᴰ·tail}
+use mathlib.Core.List.{List, [], _∷_, _++_, List·Memᴰ·head, List·Memᴰ·tail}
 use lib.ListN.{length, length-append}
 use lib.Dec.{eqb, lit<, lit≤}
 use Rattle.lists.specs.Lists.{pick, _∈_, keep, each, total, listed, upTo}
@@ -21,14 +21,15 @@ use Rattle.model.specs.Verdict.{Judged}
 use Rattle.model.proofs.Least.{least-says}
 use Rattle.model.proofs.Verdict.{verdict-says}
 use Rattle.table.specs.declared.Verdict.{Verdict}
+use Rattle.table.specs.declared.Verdict.the-variants.{Good, EndsEarly, Malformed, OutOfRange, IdTwice, PriorityTwice}
+use Rattle.table.specs.declared.Verdict.the-variants.{KindsCrossed, TooManyTimes, Trailing, NoSuchCore, NoRoom, NoWindow, Missed}
 use Rattle.table.specs.Verdicts.{codeOf, numberOf}
-use Rattle.table.specs.Memory.{rowOf, allTimes}
+use Rattle.table.specs.Memory.{allTimes}
 use Rattle.analysis.specs.Analysis.{needed, named}
 use Rattle.text.specs.Text.{decimal, line}
 use Rattle.sheet.specs.Sheet.{boundLine, coreLine, fileLine, header, partLine, rowLines, coreTextOf, coreText, goodText}
-use Rattle.sheet.specs.Promises.{partsOn}
 use Rattle.text.proofs.Decimals.{decimal-short}
-use Rattle.sheet.proofs.CoreTexts.{parts-needed, said-is}
+use Rattle.sheet.proofs.CoreTexts.{said-is}
 
 -- ---- a bound is at most the limit
 
@@ -125,13 +126,28 @@ lines-short : (core : ℕ) (rows ts : List Task) → core ≤ 3 → AllGood ts �
 unfolding needed
 lines-short core rows ts c g = each-short (rowLines core rows) parts 29 ts (λ t m. row-short core rows t c (g t m))
 
+-- a code has at most two digits
+pub code-short : (v : Verdict) → codeOf v < 100
+code-short Good = lit< tt
+code-short (EndsEarly n) = lit< tt
+code-short (Malformed n) = lit< tt
+code-short (OutOfRange n) = lit< tt
+code-short (IdTwice n) = lit< tt
+code-short (PriorityTwice n) = lit< tt
+code-short (KindsCrossed n) = lit< tt
+code-short (TooManyTimes n) = lit< tt
+code-short (Trailing n) = lit< tt
+code-short (NoSuchCore n) = lit< tt
+code-short (NoRoom n) = lit< tt
+code-short (NoWindow n) = lit< tt
+code-short (Missed n) = lit< tt
+
 -- the task that a verdict names is one of the rows
-named-small : (rows : List Task) → AllGood rows → (v : CoreVerdict) → Judged rows v
-    → (codeOf (named v) < 100) × (numberOf (named v) < 100000)
+named-small : (rows : List Task) → AllGood rows → (v : CoreVerdict) → Judged rows v → numberOf (named v) < 100000
 unfolding named
-named-small rows g passes j = (lit< tt, lit< tt)
-named-small rows g (noWindow t) j = (lit< tt, omega (arith, g t (j .row) .id .most))
-named-small rows g (misses t) j = (lit< tt, omega (arith, g t (j .row) .id .most))
+named-small rows g passes j = lit< tt
+named-small rows g (noWindow t) j = omega (arith, g t (j .row) .id .most)
+named-small rows g (misses t) j = omega (arith, g t (j .row) .id .most)
 
 -- a core: its lines, where there are any, and its verdict
 core-short : (tasks : List Task) (core : ℕ) → core ≤ 3 → AllGood tasks → length (coreText tasks core) ≤ needed (onCore core tasks) * 29 + 28
@@ -141,7 +157,7 @@ core-short tasks core c g =
     let mine : AllGood rows = λ u m. g u (kept _ tasks u m .0) in
     let v = named (coreVerdict rows) in
     let small = named-small rows mine (coreVerdict rows) (verdict-says rows) in
-    let verdict = core-line-short core v (omega arith) (small .0) (small .1) in
+    let verdict = core-line-short core v (omega arith) (code-short v) small in
     let lines = lines-short core rows rows c mine in
     rw (said-is core rows (needed rows) c (omega arith))
     (by-test (eqb (codeOf v) 11) (λ e. rw e (omega arith))
@@ -157,20 +173,21 @@ shares (suc (suc zero)) n h = omega arith
 shares (suc (suc (suc zero))) n h = omega arith
 shares (suc (suc (suc (suc c)))) n h = absurd (omega arith)
 
--- rows one after another
-rows-four : (ts : List Task) → AllGood ts
-    → total (partsOn 0) (map rowOf ts) + total (partsOn 1) (map rowOf ts)
-    + total (partsOn 2) (map rowOf ts) + total (partsOn 3) (map rowOf ts) ≤ length (allTimes ts)
-unfolding total partsOn allTimes
-rows-four [] g = omega arith
-rows-four (t ∷ ts) g =
-    let here = shares (t .core) (length (t .times)) (g t (List·Memᴰ·head refl) .core .most) in
-    rw (length-append (t .times) (allTimes ts)) (omega (arith, rows-four ts (λ u m. g u (List·Memᴰ·tail m))))
+-- how many bounds rows have on a core, row by row
+on-core : (core : ℕ) (t : Task) (ts : List Task)
+    → needed (onCore core (t ∷ ts)) ≡ pick (eqb (t .core) core) (length (t .times)) 0 + needed (onCore core ts)
+unfolding needed onCore keep total parts
+on-core core t ts = by-test (eqb (t .core) core) (λ e. rw e) (λ e. rw e (omega arith))
 
 -- the four cores have no more bounds than there are times
 four : (ts : List Task) → AllGood ts
     → needed (onCore 0 ts) + needed (onCore 1 ts) + needed (onCore 2 ts) + needed (onCore 3 ts) ≤ length (allTimes ts)
-four ts g = rw (← parts-needed 0 ts, ← parts-needed 1 ts, ← parts-needed 2 ts, ← parts-needed 3 ts) (rows-four ts g)
+unfolding each
+four [] g = unfold needed onCore keep total in omega arith
+four (t ∷ ts) g =
+    let here = shares (t .core) (length (t .times)) (g t (List·Memᴰ·head refl) .core .most) in
+    rw (length-append (t .times) (allTimes ts))
+    (omega (arith, four ts (λ u m. g u (List·Memᴰ·tail m)), on-core 0 t ts, on-core 1 t ts, on-core 2 t ts, on-core 3 t ts))
 
 -- header 34, at most 1,024 lines of 29, four verdicts of 28
 pub good-short : (ts : List Task) → AllGood ts → length (allTimes ts) ≤ 1024 → length (goodText ts) ≤ 29842

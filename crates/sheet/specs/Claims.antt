@@ -13,7 +13,7 @@ use Rattle.table.specs.declared.Verdict.the-variants.{Good}
 use Rattle.table.specs.Verdicts.{codeOf}
 use Rattle.files.specs.Reading.{stop, go, decode}
 use Rattle.analysis.specs.Analysis.{needed}
-use Rattle.sheet.specs.declared.Printed.{Printed}
+use Rattle.table.specs.declared.Written.{Written}
 use Rattle.text.specs.Text.{linesIn}
 use Rattle.sheet.specs.Sheet.{header, boundLine, coreLine, fileLine, saidOf, sheetText, Prints}
 
@@ -23,7 +23,7 @@ TextIsShort = (s : List ℕ) → Bytes s → length s < 2 ^ 64 → length (sheet
 
 -- so with that many bytes printing is never refused, and what was written is the text
 abbrev pub TextIsPrinted : Type 0
-TextIsPrinted = (s : List ℕ) → Bytes s → length s < 2 ^ 64 → (out : List ℕ) (r : Printed) (out′ : List ℕ) → Prints s out r out′
+TextIsPrinted = (s : List ℕ) → Bytes s → length s < 2 ^ 64 → (out : List ℕ) (r : Written) (out′ : List ℕ) → Prints s out r out′
     → 29842 ≤ length out → (r .verdict ≡ Good) × (take (r .count) out′ ≡ sheetText s)
 
 -- a file is printed as its first 5,124 bytes are

@@ -3,12 +3,12 @@ use Prim.Native.Nat.{ℕ, _+_, _≤_}
 use mathlib.Core.List.{List, [], _∷_, _++_}
 use lib.ListN.{length, getD, take, drop}
 use lib.Dec.{eqb}
-use Rattle.lists.specs.Lists.{pick, each, total, upTo}
+use Rattle.lists.specs.Lists.{pick, each, upTo}
 use Rattle.table.specs.declared.Row.{Row}
 use Rattle.table.specs.declared.Table.{Table}
 use Rattle.table.specs.declared.Verdict.{Verdict}
 use Rattle.table.specs.Verdicts.{codeOf}
-use Rattle.table.specs.Memory.{usedRows}
+use Rattle.table.specs.Memory.{usedRows, partsIn}
 use Rattle.sheet.specs.Sheet.{boundLine, coreLine}
 
 -- a row's lines, from its bounds in order
@@ -16,21 +16,17 @@ unfoldable pub rowText : ℕ → Row → List ℕ → List ℕ
 rowText core row bounds =
     each (λ r. boundLine core (row .id) (r + 1) (getD bounds r 0) (row .deadline)) (upTo (length bounds))
 
--- how many bounds a row has on a core: none where it is on another
-unfoldable pub partsOn : ℕ → Row → ℕ
-partsOn core row = pick (eqb (row .core) core) (row .parts) 0
-
--- the lines of a core, from the rows of all cores and the core's bounds in order
+-- the lines of a core, from its rows and their bounds in order
 unfoldable pub rowsText : ℕ → List Row → List ℕ → List ℕ
 rowsText core [] bounds = []
-rowsText core (r ∷ rs) bounds = rowText core r (take (partsOn core r) bounds) ++ rowsText core rs (drop (partsOn core r) bounds)
+rowsText core (r ∷ rs) bounds = rowText core r (take (r .parts) bounds) ++ rowsText core rs (drop (r .parts) bounds)
 
 -- what is printed of a core, from those and its verdict
 unfoldable pub coreBytes : ℕ → List Row → List ℕ → Verdict → List ℕ
 coreBytes core rows bounds v = pick (eqb (codeOf v) 11) [] (rowsText core rows bounds) ++ coreLine core v
 
 -- so many bounds are enough for a core's rows, and no more than a table's times
-pub record BoundsFor (core : ℕ) (t : Table) (bounds : ℕ) : Type 0 where
-  pub rows : t .count ≤ 64
-  pub parts : total (partsOn core) (usedRows t) ≤ bounds
+pub record BoundsFor (own : Table) (bounds : ℕ) : Type 0 where
+  pub rows : own .count ≤ 64
+  pub parts : partsIn (usedRows own) ≤ bounds
   pub most : bounds ≤ 1024

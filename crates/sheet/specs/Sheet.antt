@@ -1,18 +1,17 @@
 -- Document 01, "Set A and other samples": what the report program prints for a file.
 use Prim.Native.Nat.{ℕ, _+_}
-use mathlib.Core.Path.{_≡_}
 use mathlib.Core.List.{List, [], _∷_, _++_, map}
-use lib.ListN.{length}
-use lib.Dec.{eqb, ltb}
-use Rattle.lists.specs.Lists.{pick, each, over, upTo}
+use lib.Dec.{eqb}
+use Rattle.lists.specs.Lists.{pick, each, upTo}
 use Rattle.model.specs.Task.{Task, parts}
 use Rattle.model.specs.Bounds.{onCore, bound}
 use Rattle.table.specs.declared.Verdict.{Verdict}
-use Rattle.table.specs.declared.Verdict.the-variants.{Good, NoRoom}
+use Rattle.table.specs.declared.Verdict.the-variants.{Good}
+use Rattle.table.specs.declared.Written.{Written}
 use Rattle.table.specs.Verdicts.{codeOf, numberOf}
+use Rattle.table.specs.Written.{Writes}
 use Rattle.files.specs.Reading.{Step, stop, go, decode}
 use Rattle.analysis.specs.Analysis.{needed, coreSaid}
-use Rattle.sheet.specs.declared.Printed.{Printed}
 use Rattle.text.specs.Text.{decimal, line}
 
 -- "core"
@@ -98,15 +97,6 @@ textOf (go tasks next) = goodText tasks
 unfoldable pub sheetText : List ℕ → List ℕ
 sheetText s = textOf (decode s)
 
--- where the text does not fit: code 10 with the bytes needed, and nothing is written; else the text, and the rest stays
-unfoldable pub printAnswer : List ℕ → ℕ → Printed
-printAnswer text room =
-    pick (ltb room (length text)) (record { verdict = NoRoom (length text); count = 0 }) (record { verdict = Good; count = length text })
-
-unfoldable pub printed : List ℕ → List ℕ → List ℕ
-printed text out = pick (ltb (length out) (length text)) out (over text out)
-
--- what printing a file's sheet into lent bytes gives: the answer and every byte
-pub record Prints (s out : List ℕ) (r : Printed) (out′ : List ℕ) : Type 0 where
-  pub answer : r ≡ printAnswer (sheetText s) (length out)
-  pub bytes : out′ ≡ printed (sheetText s) out
+-- what printing a file's sheet into lent bytes gives: nothing stands against it but the room
+abbrev pub Prints : List ℕ → List ℕ → Written → List ℕ → Type 0
+Prints s out r out′ = Writes Good (sheetText s) out r out′

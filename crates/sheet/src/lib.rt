@@ -1,3 +1,4 @@
+// The printed timing sheet: worked out core by core and written byte for byte.
 ghost use Prim.Native.Nat.{_+_, _<_, _≤_};
 ghost use mathlib.Core.Path.{_≡_};
 ghost use lib.ListN.{length};
@@ -8,16 +9,11 @@ ghost use Rattle.text.specs.Text.{line};
 ghost use Rattle.text.specs.Promises.{Fits, PutAt};
 ghost use Rattle.sheet.specs.Sheet.{verdictWords, boundLine, coreLine, fileLine};
 ghost use Rattle.sheet.specs.Sheet.{coreText, goodText, sheetText, Prints};
-ghost use Rattle.sheet.specs.Promises.{BoundsFor, rowText, partsOn, rowsText, coreBytes};
+ghost use Rattle.sheet.specs.Promises.{BoundsFor, rowText, rowsText, coreBytes};
 use table::Row;
 use table::Table;
 use table::Verdict;
-
-// What is said of the room for a sheet, and how many bytes were written.
-pub struct Printed {
-    pub verdict: Verdict,
-    pub count: usize,
-}
+use table::Written;
 
 // Writes the end of a verdict line: `code C number N`.
 fn put_verdict(out: &mut [u8], at: usize, v: Verdict) -> usize
@@ -55,28 +51,18 @@ fn put_row(out: &mut [u8], at: usize, core: u32, row: Row, bounds: &[u32]) -> us
     p
 }
 
-// How many bounds a row has on a core: none where it is on another.
-fn parts_on(core: u32, row: Row) -> usize
-    ensures { λ r. ⌜ r ≡ partsOn core row ⌝ }
+// Writes the lines of a core, from its rows and their bounds.
+fn put_rows(out: &mut [u8], at: usize, core: u32, own: Table, bounds: &[u32]) -> usize
+    requires { ⌜ BoundsFor own (length (now bounds)) × Fits (rowsText core (usedRows own) (now bounds)) at (now out) ⌝ }
+    ensures { λ r. ⌜ PutAt (rowsText core (usedRows own) (now (bounds .entry))) at (now (out .entry)) r (now (out .exit)) ⌝ }
 {
-    if row.core == core {
-        return row.parts as usize;
-    }
-    0
-}
-
-// Writes the lines of a core, from the table and the core's bounds.
-fn put_rows(out: &mut [u8], at: usize, core: u32, t: Table, bounds: &[u32]) -> usize
-    requires { ⌜ BoundsFor core t (length (now bounds)) × Fits (rowsText core (usedRows t) (now bounds)) at (now out) ⌝ }
-    ensures { λ r. ⌜ PutAt (rowsText core (usedRows t) (now (bounds .entry))) at (now (out .entry)) r (now (out .exit)) ⌝ }
-{
-    let n = t.count;
+    let n = own.count;
     let mut p = at;
-    let mut used = 0;
+    let mut used: usize = 0;
     let mut i = 0;
     while i < n {
-        let row = t.rows[i];
-        let end = used + parts_on(core, row);
+        let row = own.rows[i];
+        let end = used + row.parts as usize;
         p = put_row(out, p, core, row, &bounds[used..end]);
         used = end;
         i += 1;
@@ -104,14 +90,14 @@ fn put_file_line(out: &mut [u8], v: Verdict) -> usize
 }
 
 // Writes what is said of a core: with code 11 only the verdict.
-fn put_core(out: &mut [u8], at: usize, core: u32, t: Table, v: Verdict, bounds: &[u32]) -> usize
-    requires { ⌜ BoundsFor core t (length (now bounds)) × Fits (coreBytes core (usedRows t) (now bounds) v) at (now out) ⌝ }
-    ensures { λ r. ⌜ PutAt (coreBytes core (usedRows t) (now (bounds .entry)) v) at (now (out .entry)) r (now (out .exit)) ⌝ }
+fn put_core(out: &mut [u8], at: usize, core: u32, own: Table, v: Verdict, bounds: &[u32]) -> usize
+    requires { ⌜ BoundsFor own (length (now bounds)) × Fits (coreBytes core (usedRows own) (now bounds) v) at (now out) ⌝ }
+    ensures { λ r. ⌜ PutAt (coreBytes core (usedRows own) (now (bounds .entry)) v) at (now (out .entry)) r (now (out .exit)) ⌝ }
 {
     if table::code_of(v) == 11 {
         return put_core_line(out, at, core, v);
     }
-    let p = put_rows(out, at, core, t, bounds);
+    let p = put_rows(out, at, core, own, bounds);
     put_core_line(out, p, core, v)
 }
 
@@ -120,10 +106,12 @@ fn put_analysed(out: &mut [u8], at: usize, core: u32, t: Table) -> usize
     requires { ⌜ (core ≤ 3) × (codeOf (faultOf t) ≡ 0) × Fits (coreText (tasksOf t) core) at (now out) ⌝ }
     ensures { λ r. ⌜ PutAt (coreText (tasksOf t) core) at (now (out .entry)) r (now (out .exit)) ⌝ }
 {
+    let c = cores::core_of(t, core);
     let mut bounds = [0u32; 1024];
-    let a = analysis::analyse_table(t, core, &mut bounds);
+    let a = analysis::analyse_core(c, &mut bounds);
     let v = a.verdict;
-    put_core(out, at, core, t, v, &bounds)
+    let own = c.own;
+    put_core(out, at, core, own, v, &bounds)
 }
 
 // Writes the sheet of a good table: the header, then the cores 0 to 3.
@@ -154,19 +142,16 @@ fn put_sheet(out: &mut [u8], bytes: &[u8]) -> usize
 }
 
 // Prints the sheet of a file: worked out first, and written only where it fits.
-pub fn sheet(bytes: &[u8], out: &mut [u8]) -> Printed
+pub fn sheet(bytes: &[u8], out: &mut [u8]) -> Written
     ensures { λ r. ⌜ Prints (now (bytes .entry)) (now (out .entry)) r (now (out .exit)) ⌝ }
 {
     let mut text = [0u8; 29842];
     let n = put_sheet(&mut text, bytes);
     if out.len() < n {
-        return Printed {
-            verdict: Verdict::NoRoom(n),
-            count: 0,
-        };
+        return table::refused(Verdict::NoRoom(n));
     }
     text::put_bytes(out, 0, &text[..n]);
-    Printed {
+    Written {
         verdict: Verdict::Good,
         count: n,
     }

@@ -1,47 +1,81 @@
 -- `sheet::put_analysed` meets its contract: what analysis gives for the core is what its text prints. Assumes nothing.
 use borrow.Author.Needs.{needs}
-use mathlib.Core.Path.{refl, sym}
+use mathlib.Core.Path.{_≡_, refl, sym, ap, subst, _∙_}
+use lib.ListN.{length}
+use Rattle.model.specs.Bounds.{onCore}
+use Rattle.table.specs.Memory.{tasksOf}
 use Rattle.table.proofs.Rows.{length-mapped}
+use Rattle.cores.specs.Cores.{tasksIn}
+use Rattle.cores.specs.Promises.{IsCore}
+use Rattle.cores.proofs.AskedRows.{tasks-in}
+use Rattle.cores.proofs.GoodCores.{core-of-good}
 use Rattle.text.proofs.Puts.{fits-as, put-as}
-use Rattle.sheet.proofs.CoreTexts.{CoreOfTable, enough, text-is}
+use Rattle.sheet.proofs.CoreTexts.{enough, text-is}
 use Rattle.sheet.proofs.put_analysed.Statement.{statement}
 use Rattle.sheet.proofs.put_analysed.Tie as tie
 
--- as the code has it
-good-here : (c : tie.After-analyse-table) → CoreOfTable (c .before .before .before .args .t) (c .before .before .before .args .core)
-good-here c =
-    let c3 = c .before .before .before in
-    record { rows = search (needs, length-mapped); times = search needs; fine = c3 .pre .1; small = c3 .pre .0 }
+-- the rows of a table in memory, by its type
+rows-there : (c : tie.Start) → length (c .args .t .rows) ≡ 64
+rows-there c = search (needs, length-mapped)
 
-slice-aggregate-analyse-table : tie.Need-slice-aggregate-analyse-table
-slice-aggregate-analyse-table c = search needs
+-- and its times
+times-there : (c : tie.Start) → length (c .args .t .times) ≡ 1024
+times-there c = search needs
 
-analyse-table-requires : tie.Need-analyse-table-requires
-analyse-table-requires c κs = search needs
+-- the function's entry, as the call sees it
+abbrev entry : tie.After-core-of → tie.Start
+entry c = c .before .before
+
+-- the core is one of a good table
+is-core : (c : tie.After-core-of) → IsCore (c .core-of .result)
+is-core c =
+    let s = entry c in
+    subst IsCore (sym (c .core-of .ensures)) (core-of-good (s .args .t) (rows-there s) (times-there s) (s .pre .1) (s .args .core))
+
+-- its rows are those of the table on that core
+own-rows : (c : tie.After-core-of) → tasksIn (c .core-of .result) ≡ onCore (entry c .args .core) (tasksOf (entry c .args .t))
+own-rows c = ap tasksIn (c .core-of .ensures) ∙ tasks-in _
+
+
+core-of-requires : tie.Need-core-of-requires
+core-of-requires c κs = search needs
+
+slice-aggregate-analyse-core : tie.Need-slice-aggregate-analyse-core
+slice-aggregate-analyse-core c = search needs
+
+analyse-core-requires : tie.Need-analyse-core-requires
+analyse-core-requires c κs = is-core (c .before)
 
 slice-aggregate-put-core : tie.Need-slice-aggregate-put-core
 slice-aggregate-put-core c = search needs
 
 put-core-requires : tie.Need-put-core-requires
 put-core-requires c κs =
-    let c3 = c .before .before .before in
-    let g = good-here c3 in
-    (enough g _ (search needs), fits-as (sym (text-is g refl (c3 .analyse-table .ensures))) (c3 .before .before .before .pre .2))
+    let call = c .before .before .before .before in
+    let made = call .before .before in
+    let s = entry made in (
+      enough (is-core made) _ (search needs),
+      fits-as (sym (text-is (is-core made) _ _ (s .pre .0) (own-rows made) refl (call .analyse-core .ensures))) (s .pre .2),
+    )
 
 same-length : tie.Need-same-length
 same-length c = search needs
 
 returns : tie.Need-returns
 returns c =
-    let c6 = c .before .before .before .before .before .before in
-    put-as (sym (text-is (good-here c6) refl (c6 .analyse-table .ensures))) (c .before .before .put-core .ensures)
+    let put = c .before .before in
+    let call = put .before .before .before .before .before in
+    let made = call .before .before in
+    put-as (sym (text-is (is-core made) _ _ (entry made .pre .0) (own-rows made) refl (call .analyse-core .ensures)))
+    (put .put-core .ensures)
 
 pub put-analysed-spec : {M : Type 1} → statement M
 put-analysed-spec =
     tie.close
     (tie.spec
-    slice-aggregate-analyse-table
-    analyse-table-requires
+    core-of-requires
+    slice-aggregate-analyse-core
+    analyse-core-requires
     slice-aggregate-put-core
     put-core-requires
     same-length

@@ -2,7 +2,7 @@
 use Prim.Native.Nat.{ℕ, _+_, _-_, _≤_, _<_}
 use native.Mathlib.Omega.{arith}
 use borrow.Author.Needs.{needs}
-use mathlib.Core.Path.{_≡_, ap}
+use mathlib.Core.Path.{_≡_, refl, ap}
 use mathlib.Core.List.{List, _∷_, _++_}
 use lib.ListN.{length, getD, take, drop, drop-of-length-le}
 use lib.Seq.{drop-drop, length-take-le}
@@ -10,29 +10,29 @@ use Rattle.lists.specs.Lists.{total}
 use Rattle.lists.proofs.Parts.{part-is, part-length}
 use Rattle.table.specs.declared.Row.{Row}
 use Rattle.table.specs.declared.Table.{Table}
-use Rattle.table.specs.Memory.{zeroRow, usedRows}
+use Rattle.table.specs.Memory.{zeroRow, partsIn, usedRows}
 use Rattle.table.proofs.Rows.{length-mapped, used-more}
 use Rattle.text.specs.Promises.{Fits, PutAt}
-use Rattle.sheet.specs.Promises.{BoundsFor, rowText, partsOn, rowsText}
+use Rattle.sheet.specs.Promises.{BoundsFor, rowText, rowsText}
 use Rattle.text.proofs.Puts.{Putting, starts, room, turn, ends}
 use Rattle.sheet.proofs.put_rows.Statement.{statement}
 use Rattle.sheet.proofs.put_rows.Tie as tie
 
 record Rows (core : ℕ) (t : Table) (bounds out₀ : List ℕ) (at : ℕ) (out : List ℕ) (p used i : ℕ) : Type 0 where
-  enough : BoundsFor core t (length bounds)
+  enough : BoundsFor t (length bounds)
   rows-long : t .count ≤ length (t .rows)
-  left : used + total (partsOn core) (drop i (usedRows t)) ≤ length bounds
+  left : used + partsIn (drop i (usedRows t)) ≤ length bounds
   putting : Putting (rowsText core (usedRows t) bounds) out₀ at out p (rowsText core (drop i (usedRows t)) (drop used bounds))
 
 -- at first all rows are left
-begins : (core : ℕ) (t : Table) (bounds out : List ℕ) (at : ℕ) → length (t .rows) ≡ 64 → BoundsFor core t (length bounds)
+begins : (core : ℕ) (t : Table) (bounds out : List ℕ) (at : ℕ) → length (t .rows) ≡ 64 → BoundsFor t (length bounds)
     → Fits (rowsText core (usedRows t) bounds) at out → Rows core t bounds out at out at 0 0
 begins core t bounds out at long e h =
     record { enough = e; rows-long = omega (arith, e .rows); left = omega (arith, e .parts); putting = starts _ out at h }
 
 module _ {core : ℕ} {t : Table} {bounds out₀ : List ℕ} {at : ℕ} {out : List ℕ} {p used i : ℕ}
     (k : Rows core t bounds out₀ at out p used i) where
-  module _ (h : i < t .count) (n : ℕ) (e : n ≡ partsOn core (getD (t .rows) i zeroRow)) where
+  module _ (h : i < t .count) (n : ℕ) (e : n ≡ getD (t .rows) i zeroRow .parts) where
     -- the next row
     row : Row
     row = getD (t .rows) i zeroRow
@@ -47,9 +47,9 @@ module _ {core : ℕ} {t : Table} {bounds out₀ : List ℕ} {at : ℕ} {out : L
     next = used-more (t .count) (t .rows) i h (k .rows-long)
 
     -- there are bounds for it and for the others
-    left-next : used + n + total (partsOn core) (drop (i + 1) (usedRows t)) ≤ length bounds
+    left-next : used + n + partsIn (drop (i + 1) (usedRows t)) ≤ length bounds
     unfolding total row
-    left-next = omega (arith, k .left, e, ap (total (partsOn core)) next)
+    left-next = omega (arith, k .left, e, ap partsIn next)
 
     -- no more than a table has times
     own-few : length own ≤ 1024
@@ -100,43 +100,40 @@ mul-row c = omega (arith, c .before .loop .inv .enough .rows)
 element-copy-out-row : tie.Need-element-copy-out-row Inv-loop μ-loop
 element-copy-out-row c = omega (arith, c .before .loop .inv .enough .rows)
 
-parts-on-requires : tie.Need-parts-on-requires Inv-loop μ-loop
-parts-on-requires c κs = search needs
+cast-end : tie.Need-cast-end Inv-loop μ-loop
+cast-end c = search needs
 
 -- the row's bounds end within those that are lent, which are no more than a table's times
-bounds-end : (c : tie.After-parts-on Inv-loop μ-loop)
-    → (c .before .before .before .loop .used + c .parts-on .result
-    ≤ length (c .before .before .before .before .before .before .args .bounds .now))
-    × (c .before .before .before .loop .used + c .parts-on .result ≤ 1024)
+bounds-end : (c : tie.In-loop Inv-loop μ-loop)
+    → (c .before .loop .used + getD (c .before .before .before .before .args .t4 .rows) (c .before .loop .i) zeroRow .parts
+    ≤ length (c .before .before .before .before .args .bounds .now))
+    × (c .before .loop .used + getD (c .before .before .before .before .args .t4 .rows) (c .before .loop .i) zeroRow .parts ≤ 1024)
 bounds-end c =
-    let c2 = c .before .before in
-    let k = c2 .before .loop .inv in
-    let next = left-next k (c2 .loop-test .taken) _ (c .parts-on .ensures) in
+    let k = c .before .loop .inv in
+    let next = left-next k (c .loop-test .taken) _ refl in
     (omega (arith, next), omega (arith, next, k .enough .most))
 
 add-end : tie.Need-add-end Inv-loop μ-loop
-add-end c = omega (arith, bounds-end c)
+add-end c = omega (arith, bounds-end (c .before .before))
 
 mul-put-row : tie.Need-mul-put-row Inv-loop μ-loop
-mul-put-row c = omega (arith, bounds-end (c .before))
+mul-put-row c = omega (arith, bounds-end (c .before .before .before))
 
 sub-put-row : tie.Need-sub-put-row Inv-loop μ-loop
 sub-put-row c = omega arith
 
 part-put-row-start : tie.Need-part-put-row-start Inv-loop μ-loop
-part-put-row-start c = omega (arith, bounds-end (c .before))
+part-put-row-start c = omega (arith, bounds-end (c .before .before .before))
 
 part-put-row-end : tie.Need-part-put-row-end Inv-loop μ-loop
-part-put-row-end c = omega (arith, bounds-end (c .before))
+part-put-row-end c = omega (arith, bounds-end (c .before .before .before))
 
 put-row-requires : tie.Need-put-row-requires Inv-loop μ-loop
 unfolding own row
 put-row-requires c κs =
-    let c2 = c .before .before in
-    let c4 = c2 .before .before in
-    let c5 = c4 .before in
-    let k = c5 .loop .inv in
-    (own-few k (c4 .loop-test .taken) _ (c2 .parts-on .ensures), fits k (c4 .loop-test .taken) _ (c2 .parts-on .ensures))
+    let l = c .before .before .before .before in
+    let k = l .before .loop .inv in
+    (own-few k (l .loop-test .taken) _ refl, fits k (l .loop-test .taken) _ refl)
 
 add-i : tie.Need-add-i Inv-loop μ-loop
 add-i c = search needs
@@ -147,11 +144,9 @@ loop-less c = search needs
 loop-again : tie.Need-loop-again Inv-loop μ-loop
 unfolding own row
 loop-again c =
-    let c2 = c .before .before in
-    let c5 = c2 .before .before .before in
-    let c7 = c5 .before .before in
-    let c8 = c7 .before in
-    step (c8 .loop .inv) (c7 .loop-test .taken) _ (c5 .parts-on .ensures) (c2 .put-row .ensures)
+    let call = c .before .before in
+    let l = call .before .before .before .before .before in
+    step (l .before .loop .inv) (l .loop-test .taken) _ refl (call .put-row .ensures)
 
 same-length : tie.Need-same-length Inv-loop μ-loop
 same-length c = search needs
@@ -168,7 +163,7 @@ put-rows-spec =
     loop-holds
     mul-row
     element-copy-out-row
-    parts-on-requires
+    cast-end
     add-end
     mul-put-row
     sub-put-row

@@ -2,8 +2,7 @@
 use Prim.Native.Nat.{ℕ, _+_, _≤_, _<_, _^_}
 use native.Mathlib.Omega.{arith}
 use borrow.Author.Needs.{needs}
-use borrow.Author.Tests.{lt-ltb, le-ltb}
-use mathlib.Core.Path.{_≡_, sym, ap, _∙_}
+use mathlib.Core.Path.{_≡_, refl, sym, ap, subst, _∙_}
 use mathlib.Core.List.{List}
 use lib.ListN.{length, take}
 use lib.Seq.{sets, length-sets, length-take-le}
@@ -11,7 +10,10 @@ use Rattle.lists.proofs.Overs.{over-sets}
 use Rattle.lists.proofs.Stores.{take-sets}
 use Rattle.numbers.specs.Numbers.{Bytes}
 use Rattle.table.specs.declared.Verdict.the-variants.{Good, NoRoom}
-use Rattle.sheet.specs.Sheet.{sheetText, printAnswer, printed, Prints}
+use Rattle.table.specs.declared.Written.{Written}
+use Rattle.table.specs.Written.{noneWritten}
+use Rattle.table.proofs.Writes.{refuses-room, writes-all}
+use Rattle.sheet.specs.Sheet.{sheetText, Prints}
 use Rattle.text.specs.Promises.{Fits, PutAt}
 use Rattle.sheet.proofs.Files.{text-is-short}
 use Rattle.sheet.proofs.sheet.Statement.{statement}
@@ -37,9 +39,8 @@ worked {s} bs few {n} {room₀} {room} long put =
 
 module _ {s : List ℕ} {n : ℕ} {room : List ℕ} (w : Worked s n room) {out : List ℕ} where
   -- the text does not fit
-  short : length out < n → Prints s out (record { verdict = NoRoom n; count = 0 }) out
-  unfolding printAnswer printed
-  short h = record { answer = rw (w .size, lt-ltb (length out) n h); bytes = rw (w .size, lt-ltb (length out) n h) }
+  short : length out < n → {r : Written} → r ≡ noneWritten (NoRoom n) → Prints s out r out
+  short h e = subst (λ (x : Written). Prints s out x out) (sym e) (refuses-room Good (sheetText s) out refl n (w .size) h)
 
   -- where it fits, what is copied has room
   fits : n ≤ length out → Fits (take n room) 0 out
@@ -48,14 +49,9 @@ module _ {s : List ℕ} {n : ℕ} {room : List ℕ} (w : Worked s n room) {out :
   -- and is what must be printed
   done : n ≤ length out → {q : ℕ} {out′ : List ℕ} → PutAt (take n room) 0 out q out′
       → Prints s out (record { verdict = Good; count = n }) out′
-  unfolding printAnswer printed
   done h {q} {out′} put =
       let text : out′ ≡ sets out 0 (sheetText s) = put .stored ∙ ap (sets out 0) (w .front) in
-      let fit : length (sheetText s) ≤ length out = omega (arith, w .size) in
-      record {
-        answer = rw (w .size, le-ltb (length out) n h);
-        bytes = text ∙ over-sets (sheetText s) out fit ∙ rw (w .size, le-ltb (length out) n h);
-      }
+      writes-all Good (sheetText s) out refl n (w .size) h out′ (text ∙ over-sets (sheetText s) out (omega (arith, w .size)))
 
 -- as the code has it
 worked-here : (c : tie.After-put-sheet)
@@ -70,8 +66,11 @@ slice-aggregate-put-sheet c = search needs
 put-sheet-requires : tie.Need-put-sheet-requires
 put-sheet-requires c κs = search needs
 
+refused-requires : tie.Need-refused-requires
+refused-requires c κs = search needs
+
 returns : tie.Need-returns
-returns c = short (worked-here (c .before .before)) (c .if1 .taken)
+returns c = short (worked-here (c .before .before .before)) (c .before .if1 .taken) (c .refused .ensures)
 
 array-share-prefix-text : tie.Need-array-share-prefix-text
 array-share-prefix-text c = worked-here (c .before .before .before) .within
@@ -98,6 +97,7 @@ sheet-spec =
     (tie.spec
     slice-aggregate-put-sheet
     put-sheet-requires
+    refused-requires
     returns
     array-share-prefix-text
     slice-aggregate-put-bytes
