@@ -21,10 +21,11 @@ use Rattle.model.specs.Task.{Task}
 use Rattle.table.specs.Fields.{Wanted, field, head, time, rowFrom}
 use Rattle.table.specs.Memory.{taskOf, allTimes}
 use Rattle.table.proofs.Seven.{all-length}
-use Rattle.files.specs.Reading.{Step, stop, go, _then_, asked, fieldAt, fieldsAt, rowAt, rowsAt, endAt, decode, loaded, readAnswer}
+use Rattle.fields.specs.Stepping.{Step, stop, go, _then_, asked, fieldAt, fieldsAt}
+use Rattle.files.specs.Reading.{rowAt, rowsAt, endAt, decode, loaded, readAnswer}
 use Rattle.files.specs.Enough.{EnoughToJudge}
-use Rattle.files.proofs.Sizes.{bytesOf, short, bytes-head, bytes-times}
-use Rattle.files.proofs.Taken.{field-read, taken-all, head-read, then-read}
+use Rattle.fields.proofs.Sizes.{bytesOf, short, bytes-head, bytes-times}
+use Rattle.fields.proofs.Taken.{field-read, taken-all, head-read, then-read}
 
 -- steps that agree, and go on alike
 then-same : {A B : Type 0} (x y : Step A) (f g : A → ℕ → Step B) → x ≡ y → ((a : A) (n : ℕ) → x ≡ go a n → f a n ≡ g a n)

@@ -15,7 +15,8 @@ use Rattle.table.proofs.Writes.{writes-all, wrote-fine, wrote-count, wrote-byte
 use Rattle.table.proofs.Stored.{tasks-stored}
 use Rattle.table.proofs.GoodTasks.{GoodTasks, tasks-good, stored-good, stored-again}
 use Rattle.files.specs.declared.Loaded.{Loaded}
-use Rattle.files.specs.Reading.{go, decode, loaded, readAnswer}
+use Rattle.fields.specs.Stepping.{go}
+use Rattle.files.specs.Reading.{decode, loaded, readAnswer}
 use Rattle.files.specs.Writing.{encodeFile, fileOf, Wrote}
 use Rattle.files.specs.RoundTrips.{cleared, InMemory, WrittenIsRead, ReadIsWritten}
 use Rattle.files.proofs.Trip.{file-here}

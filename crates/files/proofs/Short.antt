@@ -14,7 +14,7 @@ use Rattle.table.proofs.GoodTasks.{FineTask, FineTasks, GoodTasks, times-fit}
 use Rattle.files.specs.Writing.{encodeFile}
 use Rattle.files.specs.RoundTrips.{GoodFileIsShort}
 use Rattle.files.proofs.RowBytes.{rowBytes, rowsBytes, row-parts, rows-none, rows-more, file-parts}
-use Rattle.files.proofs.Sizes.{short, bytes-head, bytes-times}
+use Rattle.fields.proofs.Sizes.{short, bytes-head, bytes-times}
 use Rattle.files.proofs.Stops.{good-tasks}
 use Rattle.files.proofs.Back.{file-back}
 

@@ -33,6 +33,11 @@ first-good v w e = by-test (good v) (good-code v) (λ f. rw f at e)
 pub then-good : (v w : Verdict) → codeOf (v orElse w) ≡ 0 → codeOf w ≡ 0
 then-good v w e = rw (or-good v w (first-good v w e)) at e
 
+-- the first of three faults, in any grouping
+pub or-assoc : (u v w : Verdict) → u orElse (v orElse w) ≡ (u orElse v) orElse w
+unfolding _orElse_
+or-assoc u v w = by-test (good u) (λ e. rw e) (λ e. rw (e, e))
+
 -- where the code k of a verdict is asked for: a fault stays, and after none the next decides
 module _ {v x : Verdict} {k : ℕ} (same : v ≡ x) (code : k ≡ codeOf v) where
   pub fault-stays : (w : Verdict) → (k ≡ 0 → ⊥) → v ≡ x orElse w

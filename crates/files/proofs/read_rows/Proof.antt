@@ -18,12 +18,14 @@ use Rattle.table.specs.Memory.{taskOf, allTimes}
 use Rattle.table.proofs.Laid.{Laid, laid-stored, times-long, laid-part}
 use Rattle.table.proofs.Heads.{GoodHead}
 use Rattle.table.proofs.Seven.{all-length}
-use Rattle.files.specs.declared.Next.the-variants.{At}
-use Rattle.files.specs.Reading.{Step, stop, go, fieldsAt, rowAt, rowsAt}
+use Rattle.fields.specs.declared.Next.the-variants.{At}
+use Rattle.fields.specs.Stepping.{Step, stop, go, fieldsAt}
+use Rattle.files.specs.Reading.{rowAt, rowsAt}
 use Rattle.files.specs.Promises.{asBody}
-use Rattle.files.proofs.Steps.{GotHead, got-head, refused-head, filled-at, filled-refused}
+use Rattle.fields.proofs.Into.{into-at, into-refused}
+use Rattle.files.proofs.Steps.{GotHead, got-head, refused-head}
 use Rattle.files.proofs.Steps.{row-more, row-fields-stop, row-times-stop, rows-more, rows-stop, rows-none}
-use Rattle.files.proofs.Taken.{taken-all, head-read}
+use Rattle.fields.proofs.Taken.{taken-all, head-read}
 use Rattle.files.proofs.read_rows.Statement.{statement}
 use Rattle.files.proofs.read_rows.Tie as tie
 
@@ -128,7 +130,7 @@ loop-holds c =
     }
 
 read-head-requires : tie.Need-read-head-requires Inv-loop μ-loop
-read-head-requires c κs = search needs
+read-head-requires c κs = c .before .loop .inv .room
 
 enum-known-v : tie.Need-enum-known-v Inv-loop μ-loop
 enum-known-v c = search needs
@@ -196,7 +198,7 @@ returns-2 c =
     let c13 = c12 .before in
     let c16 = c13 .before .before .before in
     c .no-rows2 .ensures ∙ times-stops (c13 .loop .inv) (c16 .pre) (c12 .loop-test .taken) (got-row (c9)) _
-    (rw (slot-of (c9)) at (filled-refused _ _ _ (rw (c2 .v2 .given .1) at (c5 .read-times .ensures))))
+    (rw (slot-of (c9)) at (into-refused _ (rw (c2 .v2 .given .1) at (c5 .read-times .ensures))))
 
 enum-known-q : tie.Need-enum-known-q Inv-loop μ-loop
 enum-known-q c = search needs
@@ -226,7 +228,7 @@ loop-again c =
     let c12 = c11 .before in
     let c15 = c12 .before .before .before in
     turn (c12 .loop .inv) (c15 .pre) (c11 .loop-test .taken) (got-row (c8)) _ _
-    (rw (slot-of (c8)) at (filled-at _ _ _ (rw (c1 .q .given .1) at (c4 .read-times .ensures))))
+    (rw (slot-of (c8)) at (into-at _ (length-replicate _ time) (rw (c1 .q .given .1) at (c4 .read-times .ensures))))
 
 returns-3 : tie.Need-returns-3 Inv-loop μ-loop
 returns-3 c = ends (c .before .loop .inv) (c .loop-test .left)

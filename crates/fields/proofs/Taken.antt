@@ -17,7 +17,7 @@ use Rattle.table.proofs.Codes.{good-code}
 use Rattle.table.proofs.Fine.{Fine, good-fine, AllFine}
 use Rattle.table.proofs.Heads.{GoodHead, good-head}
 use Rattle.table.proofs.Seven.{seven}
-use Rattle.files.specs.Reading.{Step, stop, go, _then_, unless, asked, fieldAt, fieldsAt}
+use Rattle.fields.specs.Stepping.{Step, stop, go, _then_, unless, asked, fieldAt, fieldsAt}
 
 -- a step that went on did not stop
 pub stopped-not : {A B : Type 0} (x : Step A) {v : Verdict} {a : A} {n : ℕ} → x ≡ stop v → x ≡ go a n → B
