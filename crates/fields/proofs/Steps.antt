@@ -67,7 +67,8 @@ fields-append [] vs done s at = refl
 fields-append (w ∷ ws) vs done s at = by (fieldAt w s at) (λ v n. fields-append ws vs (done ++ (v ∷ [])) s n)
   where
     by : (x : Step ℕ)
-        → ((v n : ℕ) → fieldsAt (ws ++ vs) (done ++ (v ∷ [])) s n ≡ (fieldsAt ws (done ++ (v ∷ [])) s n then λ numbers at. fieldsAt vs numbers s at))
+        → ((v n : ℕ)
+        → fieldsAt (ws ++ vs) (done ++ (v ∷ [])) s n ≡ (fieldsAt ws (done ++ (v ∷ [])) s n then λ numbers at. fieldsAt vs numbers s at))
         → (x then λ value at. fieldsAt (ws ++ vs) (done ++ (value ∷ [])) s at)
         ≡ ((x then λ value at. fieldsAt ws (done ++ (value ∷ [])) s at) then λ numbers at. fieldsAt vs numbers s at)
     by (stop v) h = refl

@@ -95,10 +95,17 @@ unfolding fieldsAt AllFine each
 taken [] done s at all n e =
     let same : done ≡ all = cc in
     let here : at ≡ n = cc in
-    record { numbers = []; whole = sym same ∙ sym (append-nil done); fine = tt; bytes = λ bs. ap (λ (k : ℕ). drop k s) here; past = λ bs. omega arith }
+    record {
+      numbers = [];
+      whole = sym same ∙ sym (append-nil done);
+      fine = tt;
+      bytes = λ bs. ap (λ (k : ℕ). drop k s) here;
+      past = λ bs. omega arith;
+    }
 taken (w ∷ ws) done s at all n e =
     let r = then-read (fieldAt w s at) (λ v m. fieldsAt ws (done ++ (v ∷ [])) s m) all n e in
-    more (r .what) (r .place) (field-read w s at (r .what) (r .place) (r .first)) (taken ws (done ++ (r .what ∷ [])) s (r .place) all n (r .rest))
+    more (r .what) (r .place) (field-read w s at (r .what) (r .place) (r .first))
+    (taken ws (done ++ (r .what ∷ [])) s (r .place) all n (r .rest))
   where
     more : (v m : ℕ) → Read w s at v m → Taken ws (done ++ (v ∷ [])) s m all n → Taken (w ∷ ws) done s at all n
     more v m f l = record {

@@ -38,7 +38,8 @@ pub fn read_field(bytes: &[u8], at: usize, low: u32, high: u32, left: u32) -> Fi
 // As many numbers as `out` has room for, each in its own range, from `at` on.
 pub fn read_fields(bytes: &[u8], at: usize, low: &[u32], high: &[u32], out: &mut [u32]) -> Next
     requires { ⌜ LowsHighs (length (now out)) (now low) (now high) ⌝ }
-    ensures { λ r. ⌜ ReadInto (wanted (now (low .entry)) (now (high .entry))) (now (bytes .entry)) at (now (out .entry)) r (now (out .exit)) ⌝ }
+    ensures { λ r. ⌜ ReadInto (wanted (now (low .entry)) (now (high .entry))) (now (bytes .entry)) at
+        (now (out .entry)) r (now (out .exit)) ⌝ }
 {
     let mut p = at;
     let mut i = 0;

@@ -38,7 +38,9 @@ module _ (s : List ℕ) where
       let same : fieldsOf (rowOf (taskOf (rowFrom fields) times)) ≡ fields = rw own (seven used fields (f .fine)) in
       record {
         fine = record { fields = rw same (f .fine); times = rw own (g .fine) };
-        bytes = λ bs. rw (row-parts (taskOf (rowFrom fields) times), same) (joined s at m n (encodeAll fields) (encodeAll times) (f .bytes bs) (g .bytes bs));
+        bytes =
+            λ bs. rw (row-parts (taskOf (rowFrom fields) times), same)
+            (joined s at m n (encodeAll fields) (encodeAll times) (f .bytes bs) (g .bytes bs));
       }
 
   -- the same row, ending at the same place

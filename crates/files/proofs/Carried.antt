@@ -53,43 +53,43 @@ clash-small rows =
 
 module _ (s : List ℕ) (bs : Bytes s) where
   -- a row
-  row-near : (used at : ℕ) → at ≤ length s → Near s bs (Any s bs) (rowAt used s at)
+  row-near : (used at : ℕ) → at ≤ length s → Near s Any (rowAt used s at)
   unfolding rowAt
   row-near used at h =
-      then-near s bs (Any s bs) (Any s bs) (fieldsAt (head used) [] s at) _ (fields-near s bs (head used) [] at h)
-      (λ fields m k p. then-near s bs (Any s bs) (Any s bs) (fieldsAt (replicate (rowFrom fields .parts) time) [] s m) _ (fields-near s bs _ [] m k)
-      (λ times n l q. go-near s bs (Any s bs) (taskOf (rowFrom fields) times) n l tt))
+      then-near s Any Any (fieldsAt (head used) [] s at) _ (fields-near s bs (head used) [] at h)
+      (λ fields m k p. then-near s Any Any (fieldsAt (replicate (rowFrom fields .parts) time) [] s m) _ (fields-near s bs _ [] m k)
+      (λ times n l q. go-near s Any (taskOf (rowFrom fields) times) n l tt))
 
   -- rows one after another
-  rows-near : (k : ℕ) (done : List Task) (at : ℕ) → at ≤ length s → Near s bs (λ ts. length ts ≡ length done + k) (rowsAt k done s at)
+  rows-near : (k : ℕ) (done : List Task) (at : ℕ) → at ≤ length s → Near s (λ ts. length ts ≡ length done + k) (rowsAt k done s at)
   unfolding rowsAt
-  rows-near zero done at h = go-near s bs (λ ts. length ts ≡ length done + zero) done at h (omega arith)
+  rows-near zero done at h = go-near s (λ ts. length ts ≡ length done + zero) done at h (omega arith)
   rows-near (suc k) done at h =
-      then-near s bs (Any s bs) (λ ts. length ts ≡ length done + suc k) (rowAt (length (allTimes done)) s at) _ (row-near (length (allTimes done)) at h)
+      then-near s Any (λ ts. length ts ≡ length done + suc k) (rowAt (length (allTimes done)) s at) _ (row-near (length (allTimes done)) at h)
       (λ t n l p. more t n (rows-near k (done ++ (t ∷ [])) n l))
     where
-      more : (t : Task) (n : ℕ) → Near s bs (λ ts. length ts ≡ length (done ++ (t ∷ [])) + k) (rowsAt k (done ++ (t ∷ [])) s n)
-          → Near s bs (λ ts. length ts ≡ length done + suc k) (rowsAt k (done ++ (t ∷ [])) s n)
+      more : (t : Task) (n : ℕ) → Near s (λ ts. length ts ≡ length (done ++ (t ∷ [])) + k) (rowsAt k (done ++ (t ∷ [])) s n)
+          → Near s (λ ts. length ts ≡ length done + suc k) (rowsAt k (done ++ (t ∷ [])) s n)
       more t n near =
           let same : length (done ++ (t ∷ [])) + k ≡ length done + suc k = omega (arith, length-append done (t ∷ [])) in
           rw same at near
 
   -- the end
-  end-near : (ts : List Task) (at : ℕ) → at ≤ length s → length ts ≤ 64 → Near s bs (Any s bs) (endAt s ts at)
+  end-near : (ts : List Task) (at : ℕ) → at ≤ length s → length ts ≤ 64 → Near s Any (endAt s ts at)
   unfolding endAt
   end-near ts at h few = of-test (ltb at (length s))
     where
-      of-test : (b : Bool) → Near s bs (Any s bs) (pick b (stop (Trailing at)) (unless (clashOf (rowsOf ts)) ts at))
+      of-test : (b : Bool) → Near s Any (pick b (stop (Trailing at)) (unless (clashOf (rowsOf ts)) ts at))
       of-test true = unfold Near in omega arith
       of-test false =
-          unless-near s bs (Any s bs) (clashOf (rowsOf ts)) ts at (omega (arith, clash-small (rowsOf ts), rows-length ts)) h (λ g. tt)
+          unless-near s Any (clashOf (rowsOf ts)) ts at (omega (arith, clash-small (rowsOf ts), rows-length ts)) h (λ g. tt)
 
   -- the whole file
-  file-near : Near s bs (Any s bs) (decode s)
+  file-near : Near s Any (decode s)
   unfolding decode
   file-near =
-      then-near s bs (λ v. v ≤ 64) (Any s bs) (fieldAt (field 0 64) s 0) _ (field-near s bs (field 0 64) 0 (omega arith))
-      (λ count at h most. then-near s bs (λ (ts : List Task). length ts ≡ 0 + count) (Any s bs) (rowsAt count [] s at) _ (rows-near count [] at h)
+      then-near s (λ v. v ≤ 64) Any (fieldAt (field 0 64) s 0) _ (field-near s bs (field 0 64) 0 (omega arith))
+      (λ count at h most. then-near s (λ (ts : List Task). length ts ≡ 0 + count) Any (rowsAt count [] s at) _ (rows-near count [] at h)
       (λ ts n k all. let few : length ts ≡ 0 + count = all in let m : count ≤ 64 = most in end-near ts n k (omega arith)))
 
   -- the number that a refused file carries

@@ -44,7 +44,8 @@ module _ (s : List ℕ) (bs : Bytes s) (long : 5124 ≤ length s) where
   unfolding numberAt z
   number-same at h = by (5124 - (at + 4)) (omega arith)
     where
-      by : (rest : ℕ) → 5124 ≡ at + (4 + rest) → after 0 1 at (groups true 4 (drop at s)) ≡ after 0 1 at (groups true 4 (drop at (take 5124 s)))
+      by : (rest : ℕ) → 5124 ≡ at + (4 + rest)
+          → after 0 1 at (groups true 4 (drop at s)) ≡ after 0 1 at (groups true 4 (drop at (take 5124 s)))
       by rest all =
           let cut = ap (λ (n : ℕ). drop at (take n s)) all ∙ drop-front at (4 + rest) s in
           ap (after 0 1 at) (sym (ap (groups true 4) cut ∙ groups-front true 4 rest (drop at s)))

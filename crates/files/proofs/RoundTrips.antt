@@ -53,7 +53,8 @@ pub read-is-written : ReadIsWritten
 read-is-written s bs l same e out r out′ w room =
     let read = good-tasks s (sym (ap (λ (x : Loaded). x .verdict) same) ∙ e) in
     let file = file-back s (read .tasks) (read .next) (read .same) in
-    let table : l .table ≡ stored (read .tasks) = ap (λ (x : Loaded). x .table) (same ∙ read-tasks s (read .tasks) (read .next) (read .same)) in
+    let table : l .table ≡ stored (read .tasks)
+    = ap (λ (x : Loaded). x .table) (same ∙ read-tasks s (read .tasks) (read .next) (read .same)) in
     written (read .tasks) (stored-file s (read .tasks) (file .bytes bs)) (file .good) (rw table at w)
   where
     written : (ts : List Task) → fileOf (stored ts) ≡ s → GoodTasks ts → Wrote (stored ts) out r out′

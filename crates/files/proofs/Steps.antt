@@ -62,7 +62,8 @@ module _ (k : ℕ) (done : List Task) (s : List ℕ) (p : ℕ) (some : 0 < k) wh
   unfolding rowsAt
   rows-step = by k some
     where
-      by : (m : ℕ) → 0 < m → rowsAt m done s p ≡ rowAt (length (allTimes done)) s p then λ task at. rowsAt (m - 1) (done ++ (task ∷ [])) s at
+      by : (m : ℕ) → 0 < m
+          → rowsAt m done s p ≡ rowAt (length (allTimes done)) s p then λ task at. rowsAt (m - 1) (done ++ (task ∷ [])) s at
       by zero h = absurd (omega arith)
       by (suc m) h = rw sub-one
 

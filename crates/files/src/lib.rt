@@ -66,7 +66,8 @@ fn read_head(bytes: &[u8], at: usize, used: u32) -> Head
 // The times of a row, one for each place of `out`.
 fn read_times(bytes: &[u8], at: usize, out: &mut [u32]) -> Next
     requires { ⌜ length (now out) ≤ 64 ⌝ }
-    ensures { λ r. ⌜ ReadInto (replicate (length (now (out .entry))) time) (now (bytes .entry)) at (now (out .entry)) r (now (out .exit)) ⌝ }
+    ensures { λ r. ⌜ ReadInto (replicate (length (now (out .entry))) time) (now (bytes .entry)) at
+        (now (out .entry)) r (now (out .exit)) ⌝ }
 {
     let n = out.len();
     let low = [1u32; 64];

@@ -46,10 +46,12 @@ module _ {A : Type 0} (f : A → A → Bool) (rows : List A) (d : A) (i : ℕ) w
     earlier h = getD-take i rows j d h
 
     looked : j < i → Inner f rows (getD rows i d) i j
-        → any (f (getD rows i d)) (take i rows) ≡ pick (f (getD rows i d) (getD rows j d)) true (any (f (getD rows i d)) (drop (j + 1) (take i rows)))
+        → any (f (getD rows i d)) (take i rows)
+        ≡ pick (f (getD rows i d) (getD rows j d)) true (any (f (getD rows i d)) (drop (j + 1) (take i rows)))
     looked h e = e ∙ any-step (f (getD rows i d)) (take i rows) d j (rw (length-take-le i rows (omega arith)) h) ∙ rw (earlier h)
 
-    pub inner-next : j < i → f (getD rows i d) (getD rows j d) ≡ false → Inner f rows (getD rows i d) i j → Inner f rows (getD rows i d) i (j + 1)
+    pub inner-next : j < i → f (getD rows i d) (getD rows j d) ≡ false
+        → Inner f rows (getD rows i d) i j → Inner f rows (getD rows i d) i (j + 1)
     inner-next h t e = looked h e ∙ rw t
 
     pub found : j < i → f (getD rows i d) (getD rows j d) ≡ true → Inner f rows (getD rows i d) i j → Outer f rows i → i ≡ clash f rows

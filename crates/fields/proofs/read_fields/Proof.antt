@@ -13,7 +13,8 @@ use Rattle.table.proofs.FieldRanges.{wanted-more, wanted-count}
 use Rattle.fields.specs.declared.Next.the-variants.{At, Refused}
 use Rattle.fields.specs.Stepping.{stop, go, fieldAt, fieldsAt}
 use Rattle.fields.specs.Promises.{readBefore, ReadInto}
-use Rattle.fields.proofs.Steps.{got-field, refused-field, fields-more, before-more, fields-stop, before-stop, fields-none, before-none}
+use Rattle.fields.proofs.Steps.{got-field, refused-field}
+use Rattle.fields.proofs.Steps.{fields-more, before-more, fields-stop, before-stop, fields-none, before-none}
 use Rattle.fields.proofs.read_fields.Statement.{statement}
 use Rattle.fields.proofs.read_fields.Tie as tie
 

@@ -41,7 +41,8 @@ read-body-requires c κs =
     let c1 = c .before in
     let c3 = c1 .before .before in
     let c5 = c3 .before .before in
-    field-read (field 0 64) (now (c5 .args .bytes)) 0 _ _ (got-field _ _ _ (sym (c1 .value .given .1) ∙ c3 .read-field .ensures)) .fine .most
+    let read = got-field _ _ _ (sym (c1 .value .given .1) ∙ c3 .read-field .ensures) in
+    field-read (field 0 64) (now (c5 .args .bytes)) 0 _ _ read .fine .most
 
 returns : tie.Need-returns
 returns c =

@@ -30,7 +30,8 @@ closes : (s : List ℕ) (ts : List Task) (at : ℕ) → closed s at (stored ts) 
 unfolding closed endAt unless
 closes s ts at = rw (stored-rows ts) (by (ltb at (length s)) (good (clashOf (rowsOf ts))))
   where
-    by : (a b : Bool) → pick a (loaded (stop (Trailing at))) (pick b (record { verdict = Good; table = stored ts }) (loaded (stop (clashOf (rowsOf ts)))))
+    by : (a b : Bool)
+        → pick a (loaded (stop (Trailing at))) (pick b (record { verdict = Good; table = stored ts }) (loaded (stop (clashOf (rowsOf ts)))))
         ≡ loaded (pick a (stop (Trailing at)) (pick b (go ts at) (stop (clashOf (rowsOf ts)))))
     by true b = refl
     by false true = refl

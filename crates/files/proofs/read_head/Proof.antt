@@ -27,7 +27,9 @@ module _ (used : ℕ) (s : List ℕ) (at : ℕ) where
   in-two : fieldsAt (head used) [] s at
       ≡ (fieldsAt (wanted lows highs) [] s at then λ ns m. fieldAt (partCount used) s m then λ v n. go (ns ++ (v ∷ [])) n)
   unfolding fieldsAt
-  in-two = ap (λ (ws : List Wanted). fieldsAt ws [] s at) (head-split used) ∙ fields-append (wanted lows highs) (partCount used ∷ []) [] s at
+  in-two =
+      ap (λ (ws : List Wanted). fieldsAt ws [] s at) (head-split used)
+      ∙ fields-append (wanted lows highs) (partCount used ∷ []) [] s at
 
   module _ (room : List ℕ) (six : length room ≡ 6) (r : Next) (part : List ℕ) (into : ReadInto (wanted lows highs) s at room r part) where
     plain-stops : (v : Verdict) → r ≡ X.Refused v → H.Refused v ≡ asHead (fieldsAt (head used) [] s at)

@@ -37,7 +37,8 @@ module _ (rule : Rule) (t : Table) (n i : ℕ) (l : Looking rule t n i) where
 
     next-earlier : j < i → breaks rule (getD (t .rows) i zeroRow) (getD (t .rows) j zeroRow) ≡ false → Comparing rule t i (j + 1)
     next-earlier h e =
-        record { upto = omega arith; same = inner-next (breaks rule) (usedRows t) zeroRow i j (omega (arith, l .all)) h (tested h false e) (k .same) }
+        let used : i < length (usedRows t) = omega (arith, l .all) in
+        record { upto = omega arith; same = inner-next (breaks rule) (usedRows t) zeroRow i j used h (tested h false e) (k .same) }
 
     here : j < i → breaks rule (getD (t .rows) i zeroRow) (getD (t .rows) j zeroRow) ≡ true → i ≡ clash (breaks rule) (usedRows t)
     here h e = found (breaks rule) (usedRows t) zeroRow i j (omega (arith, l .all)) h (tested h true e) (k .same) (l .same)

@@ -1,13 +1,12 @@
 -- `table::head_fault` meets its contract: the constants are the ranges of `head` before the part count. Assumes nothing.
-use Prim.Native.Nat.{ℕ, _-_, _≤_}
-use native.Mathlib.Omega.{arith}
+use Prim.Native.Nat.{ℕ}
 use borrow.Author.Needs.{needs}
 use mathlib.Core.Path.{_≡_, refl, sym, ap, _∙_}
-use mathlib.Core.List.{List, [], _∷_, _++_}
+use mathlib.Core.List.{List, [], _∷_}
 use lib.ListN.{length, take}
 use Rattle.table.specs.declared.Row.{Row}
 use Rattle.table.specs.declared.Verdict.{Verdict}
-use Rattle.table.specs.Verdicts.{codeOf, _orElse_}
+use Rattle.table.specs.Verdicts.{_orElse_}
 use Rattle.table.specs.Fields.{Wanted, head, partCount, wanted, judge, fieldsOf, faultIn}
 use Rattle.table.proofs.Codes.{fault-stays, next-decides}
 use Rattle.table.proofs.Heads.{lows, highs, head-split}
@@ -58,8 +57,8 @@ unfolding lows highs
 returns c =
     let c2 = c .before .before in
     let c6 = c2 .before .before .before .before in
-    fault-stays (plain (c6 .before .args .i) _ _ _ (c6 .fields-of .ensures) (c2 .first-fault .ensures)) (c .before .code-of .ensures) _ (c .if1 .taken)
-    ∙ sym (in-two _ _ _)
+    let said = plain (c6 .before .args .i) _ _ _ (c6 .fields-of .ensures) (c2 .first-fault .ensures) in
+    fault-stays said (c .before .code-of .ensures) _ (c .if1 .taken) ∙ sym (in-two _ _ _)
 
 sub-number-fault : tie.Need-sub-number-fault
 sub-number-fault c = search needs
@@ -72,9 +71,8 @@ unfolding lows highs
 returns-2 c =
     let c3 = c .before .before .before in
     let c7 = c3 .before .before .before .before in
-    next-decides (plain (c7 .before .args .i) _ _ _ (c7 .fields-of .ensures) (c3 .first-fault .ensures)) (c .before .before .code-of .ensures)
-    (c .before .if1 .left) (c .number-fault .ensures)
-    ∙ sym (in-two _ _ _)
+    let said = plain (c7 .before .args .i) _ _ _ (c7 .fields-of .ensures) (c3 .first-fault .ensures) in
+    next-decides said (c .before .before .code-of .ensures) (c .before .if1 .left) (c .number-fault .ensures) ∙ sym (in-two _ _ _)
 
 pub head-fault-spec : {M : Type 1} → statement M
 head-fault-spec =
