@@ -44,7 +44,8 @@ pub fn read_fields(bytes: &[u8], at: usize, low: &[u32], high: &[u32], out: &mut
     let mut p = at;
     let mut i = 0;
     while i < out.len() {
-        match read_field(bytes, p, low[i], high[i], high[i]) {
+        let most = high[i];
+        match read_field(bytes, p, low[i], most, most) {
             Field::Refused(v) => return Next::Refused(v),
             Field::Got { value, next } => {
                 out[i] = value;

@@ -53,6 +53,7 @@ wanted-same a b (suc n) (suc m) h = ap (_∷_ (field a b)) (wanted-same a b n m 
 pub length-same : (a n m : ℕ) → n ≤ m → length (take n (replicate m a)) ≡ n
 length-same a n m h = length-take-le n (replicate m a) (rw length-replicate h)
 
+-- and both lists of them
 pub ranges-same : (a b n m : ℕ) → n ≤ m → LowsHighs n (take n (replicate m a)) (take n (replicate m b))
 ranges-same a b n m h = record { lows = length-same a n m h; highs = length-same b n m h }
 
@@ -62,6 +63,7 @@ pub fault-more : (ws : List Wanted) (w : Wanted) (carried : ℕ) (ns : List ℕ)
 unfolding faultIn
 fault-more ws w carried ns i e h = rw (e, drop-cons ns i 0, add-one)
 
+-- past the last there is no fault
 pub fault-none : (ws : List Wanted) (carried : ℕ) (ns : List ℕ) (i : ℕ) → length ns ≤ i → faultIn ws carried (drop i ns) ≡ Good
 unfolding faultIn
 fault-none [] carried ns i h = refl

@@ -32,9 +32,11 @@ pub record GoodHead (used : ℕ) (r : Row) : Type 0 where
   pub parts : Within 1 64 (r .parts)
   pub room : used + r .parts ≤ 1024
 
+-- a fine plain field is in its range
 within : (low high n : ℕ) → Fine (field low high) n → Within low high n
 within low high n f = record { least = f .least; most = f .most }
 
+-- fine fields are in their ranges
 pub good-head : (used : ℕ) (r : Row) → AllFine (head used) (fieldsOf r) → GoodHead used r
 unfolding head AllFine
 good-head used r f =

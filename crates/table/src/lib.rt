@@ -295,7 +295,8 @@ fn first_fault(numbers: &[u32], low: &[u32], high: &[u32], carried: usize) -> Ve
 {
     let mut i = 0;
     while i < numbers.len() {
-        let v = number_fault(numbers[i], low[i], high[i], high[i], carried);
+        let most = high[i];
+        let v = number_fault(numbers[i], low[i], most, most, carried);
         if code_of(v) != 0 {
             return v;
         }

@@ -37,6 +37,7 @@ module _ {s : List ℕ} {at : ℕ} {low high out₀ out : List ℕ} {p i : ℕ} 
     next : drop i (wanted low high) ≡ field (getD low i 0) (getD high i 0) ∷ drop (i + 1) (wanted low high)
     next = wanted-more (f .ranges) i (omega (arith, long))
 
+    -- one number more
     turn : (v n : ℕ) → fieldAt (field (getD low i 0) (getD high i 0)) s p ≡ go v n → Filling s at low high out₀ (set out i v) n (i + 1)
     turn v n e = record {
       ranges = f .ranges;
@@ -48,6 +49,7 @@ module _ {s : List ℕ} {at : ℕ} {low high out₀ out : List ℕ} {p i : ℕ} 
       before = f .before ∙ before-more (wanted low high) _ i (f .done) s p next v n e;
     }
 
+    -- a number is refused
     halts : (v : Verdict) → fieldAt (field (getD low i 0) (getD high i 0)) s p ≡ stop v
         → ReadInto (wanted low high) s at out₀ (Refused v) out
     halts v e = record {
@@ -55,6 +57,7 @@ module _ {s : List ℕ} {at : ℕ} {low high out₀ out : List ℕ} {p i : ℕ} 
       room = f .put ∙ rw (f .before, before-stop (wanted low high) _ i (f .done) s p next v e);
     }
 
+  -- the room is full
   ends : length out ≤ i → ReadInto (wanted low high) s at out₀ (At p) out
   ends h =
       let past : length (wanted low high) ≤ i = rw (wanted-count (f .ranges)) (omega (arith, long)) in
@@ -81,25 +84,17 @@ loop-holds c =
       before = refl;
     }
 
+mul-most : tie.Need-mul-most Inv-loop μ-loop
+mul-most c = omega (arith, long (c .before .loop .inv))
+
+shared-slice-read-most : tie.Need-shared-slice-read-most Inv-loop μ-loop
+shared-slice-read-most c = omega (arith, c .before .before .loop .inv .ranges .highs, long (c .before .before .loop .inv))
+
 mul-read-field : tie.Need-mul-read-field Inv-loop μ-loop
-mul-read-field c = omega (arith, long (c .before .loop .inv))
+mul-read-field c = omega (arith, long (c .before .before .loop .inv))
 
 shared-slice-read-read-field : tie.Need-shared-slice-read-read-field Inv-loop μ-loop
-shared-slice-read-read-field c = omega (arith, c .before .before .loop .inv .ranges .lows, long (c .before .before .loop .inv))
-
-mul-read-field-2 : tie.Need-mul-read-field-2 Inv-loop μ-loop
-mul-read-field-2 c = omega (arith, long (c .before .before .loop .inv))
-
-shared-slice-read-read-field-2 : tie.Need-shared-slice-read-read-field-2 Inv-loop μ-loop
-shared-slice-read-read-field-2 c =
-    omega (arith, c .before .before .before .loop .inv .ranges .highs, long (c .before .before .before .loop .inv))
-
-mul-read-field-3 : tie.Need-mul-read-field-3 Inv-loop μ-loop
-mul-read-field-3 c = omega (arith, long (c .before .before .before .loop .inv))
-
-shared-slice-read-read-field-3 : tie.Need-shared-slice-read-read-field-3 Inv-loop μ-loop
-shared-slice-read-read-field-3 c =
-    omega (arith, c .before .before .before .before .loop .inv .ranges .highs, long (c .before .before .before .before .loop .inv))
+shared-slice-read-read-field c = omega (arith, c .before .before .before .loop .inv .ranges .lows, long (c .before .before .before .loop .inv))
 
 read-field-requires : tie.Need-read-field-requires Inv-loop μ-loop
 read-field-requires c κs = search needs
@@ -108,38 +103,34 @@ enum-known-v : tie.Need-enum-known-v Inv-loop μ-loop
 enum-known-v c = search needs
 
 same-length : tie.Need-same-length Inv-loop μ-loop
-same-length c = long (c .before .before .before .before .before .before .before .before .loop .inv)
+same-length c = long (c .before .before .before .before .before .before .before .loop .inv)
 
 returns : tie.Need-returns Inv-loop μ-loop
 returns c =
-    let c1 = c .before in
-    let c3 = c1 .before .before in
-    let c7 = c3 .before .before .before .before in
-    let c8 = c7 .before in
-    halts (c8 .loop .inv) (c7 .loop-test .taken) _ (refused-field _ _ (sym (c1 .v .given .1) ∙ c3 .read-field .ensures))
+    let c3 = c .before .before .before in
+    let c6 = c3 .before .before .before in
+    halts (c6 .before .loop .inv) (c6 .loop-test .taken) _ (refused-field _ _ (sym (c .before .v .given .1) ∙ c3 .read-field .ensures))
 
 enum-known-value : tie.Need-enum-known-value Inv-loop μ-loop
 enum-known-value c = search needs
 
 mul-out : tie.Need-mul-out Inv-loop μ-loop
-mul-out c = omega (arith, long (c .before .before .before .before .before .before .before .before .loop .inv))
+mul-out c = omega (arith, long (c .before .before .before .before .before .before .before .loop .inv))
 
 slice-write-out : tie.Need-slice-write-out Inv-loop μ-loop
 slice-write-out c = search needs
 
 add-i : tie.Need-add-i Inv-loop μ-loop
-add-i c = omega (arith, long (c .before .before .before .before .before .before .before .before .loop .inv))
+add-i c = omega (arith, long (c .before .before .before .before .before .before .before .loop .inv))
 
 loop-less : tie.Need-loop-less Inv-loop μ-loop
-loop-less c = omega (arith, long (c .before .before .before .before .before .before .before .before .loop .inv))
+loop-less c = omega (arith, long (c .before .before .before .before .before .before .before .loop .inv))
 
 loop-again : tie.Need-loop-again Inv-loop μ-loop
 loop-again c =
-    let c1 = c .before in
-    let c3 = c1 .before .before in
-    let c7 = c3 .before .before .before .before in
-    let c8 = c7 .before in
-    turn (c8 .loop .inv) (c7 .loop-test .taken) _ _ (got-field _ _ _ (sym (c1 .value .given .1) ∙ c3 .read-field .ensures))
+    let c3 = c .before .before .before in
+    let c6 = c3 .before .before .before in
+    turn (c6 .before .loop .inv) (c6 .loop-test .taken) _ _ (got-field _ _ _ (sym (c .before .value .given .1) ∙ c3 .read-field .ensures))
 
 same-length-2 : tie.Need-same-length-2 Inv-loop μ-loop
 same-length-2 c = long (c .before .loop .inv)
@@ -154,12 +145,10 @@ read-fields-spec =
     Inv-loop
     μ-loop
     loop-holds
+    mul-most
+    shared-slice-read-most
     mul-read-field
     shared-slice-read-read-field
-    mul-read-field-2
-    shared-slice-read-read-field-2
-    mul-read-field-3
-    shared-slice-read-read-field-3
     read-field-requires
     enum-known-v
     same-length

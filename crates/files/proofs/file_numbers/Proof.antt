@@ -74,9 +74,11 @@ module _ {t : Table} {out₀ out : List ℕ} {p used i : ℕ} (l : Listing t out
     unfolding each
     more = rw (n .first)
 
+    -- they have room
     fits : p + (7 + getD (t .rows) i zeroRow .parts) ≤ 1473
     fits = omega (arith, room, count, ap length more, length-append (rowNumbers (n .task)) (each rowNumbers (n .others)))
 
+    -- one row more
     turn : (part : List ℕ) → part ≡ sets (take (length out - p) (drop p out)) 0 (fieldsOf (getD (t .rows) i zeroRow) ++ lent t used i)
         → Listing t out₀ (take p out ++ (part ++ drop (length out - p) (drop p out))) (p + 7 + getD (t .rows) i zeroRow .parts)
         (used + getD (t .rows) i zeroRow .parts) (i + 1)

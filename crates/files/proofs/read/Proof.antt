@@ -13,10 +13,12 @@ use Rattle.fields.proofs.Taken.{field-read}
 use Rattle.files.proofs.read.Statement.{statement}
 use Rattle.files.proofs.read.Tie as tie
 
+-- the row count is refused
 stops : (s : List ℕ) (v : Verdict) → fieldAt (field 0 64) s 0 ≡ stop v → loaded (stop v) ≡ readAnswer s
 unfolding readAnswer decode _then_
 stops s v e = rw e
 
+-- the row count is read
 goes-on : (s : List ℕ) (n at : ℕ) → fieldAt (field 0 64) s 0 ≡ go n at → loaded (rowsAt n [] s at then endAt s) ≡ readAnswer s
 unfolding readAnswer decode _then_
 goes-on s n at e = rw e

@@ -42,11 +42,13 @@ module _ (s : List ℕ) (b : Body) where
   next-is : (x : Step (List Task)) {n : Next} → b ≡ asBody x → b .next ≡ n → asBody x .next ≡ n
   next-is x read e = sym (ap (λ (k : Body). k .next) read) ∙ e
 
+  -- the rows are refused
   stops : (x : Step (List Task)) → b ≡ asBody x → (v : Verdict) → b .next ≡ Refused v → loaded (stop v) ≡ loaded (x then endAt s)
   unfolding _then_
   stops (stop w) read v e = let q = next-is (stop w) read e in let same : w ≡ v = cc in rw same
   stops (go ts m) read v e = let q = next-is (go ts m) read e in let z : _≡_ {A = ℕ} 0 1 = cc in absurd (omega arith)
 
+  -- the rows are read, and the end follows
   ends : (x : Step (List Task)) → b ≡ asBody x → (p : ℕ) (r : Loaded) → b .next ≡ At p → r ≡ closed s p (b .table)
       → r ≡ loaded (x then endAt s)
   unfolding _then_

@@ -19,15 +19,18 @@ use Rattle.files.proofs.read_end.Statement.{statement}
 use Rattle.files.proofs.read_end.Tie as tie
 
 module _ (s : List ℕ) (at : ℕ) (t : Table) where
+  -- a byte is left
   past : at < length s → loaded (stop (Trailing at)) ≡ closed s at t
   unfolding closed
   past h = rw (lt-ltb at (length s) h)
 
   module _ (v : Verdict) (k : ℕ) (said : v ≡ clashOf (usedRows t)) (code : k ≡ codeOf v) (all : length s ≤ at) where
+    -- rows clash
     clashes : (k ≡ 0 → ⊥) → loaded (stop v) ≡ closed s at t
     unfolding closed
     clashes f = rw (le-ltb at (length s) all, ← said, is-fault v (λ e. f (code ∙ e)))
 
+    -- none do
     fine : k ≡ 0 → record { verdict = Good; table = t } ≡ closed s at t
     unfolding closed
     fine e = rw (le-ltb at (length s) all, ← said, is-good v (sym code ∙ e))

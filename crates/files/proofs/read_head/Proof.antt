@@ -32,6 +32,7 @@ module _ (used : ℕ) (s : List ℕ) (at : ℕ) where
       ∙ fields-append (wanted lows highs) (partCount used ∷ []) [] s at
 
   module _ (room : List ℕ) (six : length room ≡ 6) (r : Next) (part : List ℕ) (into : ReadInto (wanted lows highs) s at room r part) where
+    -- a plain field is refused
     plain-stops : (v : Verdict) → r ≡ X.Refused v → H.Refused v ≡ asHead (fieldsAt (head used) [] s at)
     unfolding _then_
     plain-stops v e = rw (in-two, into-refused v (rw e at into))
@@ -47,10 +48,12 @@ module _ (used : ℕ) (s : List ℕ) (at : ℕ) where
       unfolding wanted lows highs
       count = all-length (wanted lows highs) part (taken-all (wanted lows highs) s at part m plain .fine)
 
+      -- the part count is refused
       count-stops : (v : Verdict) → fieldAt (partCount used) s m ≡ stop v → H.Refused v ≡ asHead (fieldsAt (head used) [] s at)
       unfolding _then_
       count-stops v e = rw (in-two, plain, e)
 
+      -- all seven are read
       ends : (v n : ℕ) → fieldAt (partCount used) s m ≡ go v n
           → H.Got (rowFrom (set (part ++ (0 ∷ [])) 6 v)) n ≡ asHead (fieldsAt (head used) [] s at)
       unfolding _then_

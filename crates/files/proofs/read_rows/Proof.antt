@@ -37,6 +37,7 @@ record Loading (s : List ℕ) (at n : ℕ) (rows : List Row) (times : List ℕ) 
   same : rowsAt n [] s at ≡ rowsAt (n - i) done s p
 
 module _ {s : List ℕ} {at n : ℕ} {rows : List Row} {times : List ℕ} {p used i : ℕ} (l : Loading s at n rows times p used i) where
+  -- after the last row
   ends : n ≤ i → record { next = At p; table = record { count = n; rows = rows; times = times } } ≡ asBody (rowsAt n [] s at)
   ends h =
       let last : n ≡ i = omega (arith, l .upto) in
@@ -51,13 +52,16 @@ module _ {s : List ℕ} {at n : ℕ} {rows : List Row} {times : List ℕ} {p use
     here : {x : Step Task} → rowAt used s p ≡ x → rowAt (length (allTimes (l .done))) s p ≡ x
     here e = rw (l .laid .total) at e
 
+    -- a row is refused
     stops : (v : Verdict) → rowAt used s p ≡ stop v → asBody (stop v) ≡ asBody (rowsAt n [] s at)
     stops v e = sym (ap asBody (l .same ∙ rows-stop (n - i) (l .done) s p (omega arith) v (here e)))
 
+    -- by its fields
     head-stops : (v : Verdict) → fieldsAt (head used) [] s p ≡ stop v → asBody (stop v) ≡ asBody (rowsAt n [] s at)
     head-stops v e = stops v (row-fields-stop used s p v e)
 
     module _ {row : Row} {q : ℕ} (g : GotHead (fieldsAt (head used) [] s p) row q) where
+      -- its fields are in their ranges
       good-row : GoodHead used row
       good-row = rw (g .is) at (head-read used s p (g .fields) q (g .first))
 
@@ -65,6 +69,7 @@ module _ {s : List ℕ} {at n : ℕ} {rows : List Row} {times : List ℕ} {p use
       slot : length (take (used + row .parts - used) (drop used times)) ≡ row .parts
       slot = part-length used (row .parts) times (rw (times-long (l .laid) (l .room)) (good-row .room))
 
+      -- or by its times
       times-stops : (v : Verdict) → fieldsAt (replicate (row .parts) time) [] s q ≡ stop v → asBody (stop v) ≡ asBody (rowsAt n [] s at)
       times-stops v e = stops v (row-times-stop used s p g v e)
 
@@ -73,6 +78,7 @@ module _ {s : List ℕ} {at n : ℕ} {rows : List Row} {times : List ℕ} {p use
         full : length ts ≡ row .parts
         full = all-length _ ts (taken-all (replicate (row .parts) time) s q ts m read .fine) ∙ length-replicate (row .parts) time
 
+        -- one row more
         turn : Loading s at n (set rows i row) (take used times ++ (ts ++ drop (used + row .parts - used) (drop used times))) m
             (used + row .parts) (i + 1)
         turn =
