@@ -18,9 +18,10 @@ use Rattle.table.specs.Memory.{rowOf, taskOf, allTimes, rowsOf}
 use Rattle.table.specs.Clash.{clashOf}
 use Rattle.table.proofs.Seven.{all-length, seven}
 use Rattle.table.proofs.GoodTasks.{FineTask, FineTasks, GoodTasks}
-use Rattle.files.specs.Reading.{stop, go, _then_, fieldAt, fieldsAt, rowAt, rowsAt, endAt, decode}
+use Rattle.fields.specs.Stepping.{stop, go, _then_, fieldAt, fieldsAt}
+use Rattle.files.specs.Reading.{rowAt, rowsAt, endAt, decode}
 use Rattle.files.specs.Writing.{encodeFile}
-use Rattle.files.proofs.Taken.{Between, joined, stopped-not, passed, then-read, Read, field-read, TakenAll, taken-all}
+use Rattle.fields.proofs.Taken.{Between, joined, stopped-not, passed, then-read, Read, field-read, TakenAll, taken-all}
 use Rattle.files.proofs.RowBytes.{rowBytes, rowsBytes, row-parts, rows-none, rows-more, file-parts}
 
 module _ (s : List ℕ) where
@@ -37,7 +38,9 @@ module _ (s : List ℕ) where
       let same : fieldsOf (rowOf (taskOf (rowFrom fields) times)) ≡ fields = rw own (seven used fields (f .fine)) in
       record {
         fine = record { fields = rw same (f .fine); times = rw own (g .fine) };
-        bytes = λ bs. rw (row-parts (taskOf (rowFrom fields) times), same) (joined s at m n (encodeAll fields) (encodeAll times) (f .bytes bs) (g .bytes bs));
+        bytes =
+            λ bs. rw (row-parts (taskOf (rowFrom fields) times), same)
+            (joined s at m n (encodeAll fields) (encodeAll times) (f .bytes bs) (g .bytes bs));
       }
 
   -- the same row, ending at the same place

@@ -21,10 +21,11 @@ use Rattle.model.specs.Task.{Task}
 use Rattle.table.specs.Fields.{Wanted, field, head, time, rowFrom}
 use Rattle.table.specs.Memory.{taskOf, allTimes}
 use Rattle.table.proofs.Seven.{all-length}
-use Rattle.files.specs.Reading.{Step, stop, go, _then_, asked, fieldAt, fieldsAt, rowAt, rowsAt, endAt, decode, loaded, readAnswer}
+use Rattle.fields.specs.Stepping.{Step, stop, go, _then_, asked, fieldAt, fieldsAt}
+use Rattle.files.specs.Reading.{rowAt, rowsAt, endAt, decode, loaded, readAnswer}
 use Rattle.files.specs.Enough.{EnoughToJudge}
-use Rattle.files.proofs.Sizes.{bytesOf, short, bytes-head, bytes-times}
-use Rattle.files.proofs.Taken.{field-read, taken-all, head-read, then-read}
+use Rattle.fields.proofs.Sizes.{bytesOf, short, bytes-head, bytes-times}
+use Rattle.fields.proofs.Taken.{field-read, taken-all, head-read, then-read}
 
 -- steps that agree, and go on alike
 then-same : {A B : Type 0} (x y : Step A) (f g : A → ℕ → Step B) → x ≡ y → ((a : A) (n : ℕ) → x ≡ go a n → f a n ≡ g a n)
@@ -43,11 +44,13 @@ module _ (s : List ℕ) (bs : Bytes s) (long : 5124 ≤ length s) where
   unfolding numberAt z
   number-same at h = by (5124 - (at + 4)) (omega arith)
     where
-      by : (rest : ℕ) → 5124 ≡ at + (4 + rest) → after 0 1 at (groups true 4 (drop at s)) ≡ after 0 1 at (groups true 4 (drop at (take 5124 s)))
+      by : (rest : ℕ) → 5124 ≡ at + (4 + rest)
+          → after 0 1 at (groups true 4 (drop at s)) ≡ after 0 1 at (groups true 4 (drop at (take 5124 s)))
       by rest all =
           let cut = ap (λ (n : ℕ). drop at (take n s)) all ∙ drop-front at (4 + rest) s in
           ap (after 0 1 at) (sym (ap (groups true 4) cut ∙ groups-front true 4 rest (drop at s)))
 
+  -- so a number does not end early
   not-early : (at : ℕ) → at + 4 ≤ 5124 → numberAt s at ≡ N.EndsEarly → ⊥
   unfolding numberAt
   not-early at h e = by (groups true 4 (drop at s)) refl e
@@ -57,6 +60,7 @@ module _ (s : List ℕ) (bs : Bytes s) (long : 5124 ≤ length s) where
       by N.EndsEarly q f = groups-enough true 4 (drop at s) (rw length-drop (omega arith)) q
       by N.Malformed q f = let w : _≡_ {A = ℕ} 0 1 = cc in omega arith
 
+  -- a wanted number is read alike
   field-same : (w : Wanted) (at : ℕ) → at + 4 ≤ 5124 → fieldAt w s at ≡ fieldAt w z at
   unfolding fieldAt asked
   field-same w at h = by (numberAt s at) refl
@@ -79,6 +83,7 @@ module _ (s : List ℕ) (bs : Bytes s) (long : 5124 ≤ length s) where
       let r = taken-all (head used) s at fields n e in
       omega (arith, r .past bs, short (head used) fields (r .fine), bytes-head used)
 
+  -- its times
   times-end : (i used at : ℕ) (fields : List ℕ) (n : ℕ) → i < 64 → used ≤ 1024 → at ≤ 1 + (16 * i + 4 * used)
       → fieldsAt (head used) [] s at ≡ go fields n → n + total bytesOf (replicate (rowFrom fields .parts) time) ≤ 5121
   times-end i used at fields n few room h e =
@@ -158,6 +163,7 @@ module _ (s : List ℕ) (bs : Bytes s) (long : 5124 ≤ length s) where
       let cut : length (take 5124 s) ≡ 5124 = length-take-le 5124 s long in
       rw (lt-ltb at (length s) (omega arith), lt-ltb at (length (take 5124 s)) (omega arith))
 
+  -- the whole file
   file-same : decode s ≡ decode z
   unfolding decode
   file-same =

@@ -4,9 +4,7 @@ pub mod Carried
 pub mod RoundTrips
 pub mod RowBytes
 pub mod Short
-pub mod Sizes
 pub mod Steps
 pub mod Stops
-pub mod Taken
 pub mod Trip
 pub mod Unused

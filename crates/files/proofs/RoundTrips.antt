@@ -15,7 +15,8 @@ use Rattle.table.proofs.Writes.{writes-all, wrote-fine, wrote-count, wrote-byte
 use Rattle.table.proofs.Stored.{tasks-stored}
 use Rattle.table.proofs.GoodTasks.{GoodTasks, tasks-good, stored-good, stored-again}
 use Rattle.files.specs.declared.Loaded.{Loaded}
-use Rattle.files.specs.Reading.{go, decode, loaded, readAnswer}
+use Rattle.fields.specs.Stepping.{go}
+use Rattle.files.specs.Reading.{decode, loaded, readAnswer}
 use Rattle.files.specs.Writing.{encodeFile, fileOf, Wrote}
 use Rattle.files.specs.RoundTrips.{cleared, InMemory, WrittenIsRead, ReadIsWritten}
 use Rattle.files.proofs.Trip.{file-here}
@@ -52,7 +53,8 @@ pub read-is-written : ReadIsWritten
 read-is-written s bs l same e out r out′ w room =
     let read = good-tasks s (sym (ap (λ (x : Loaded). x .verdict) same) ∙ e) in
     let file = file-back s (read .tasks) (read .next) (read .same) in
-    let table : l .table ≡ stored (read .tasks) = ap (λ (x : Loaded). x .table) (same ∙ read-tasks s (read .tasks) (read .next) (read .same)) in
+    let table : l .table ≡ stored (read .tasks)
+    = ap (λ (x : Loaded). x .table) (same ∙ read-tasks s (read .tasks) (read .next) (read .same)) in
     written (read .tasks) (stored-file s (read .tasks) (file .bytes bs)) (file .good) (rw table at w)
   where
     written : (ts : List Task) → fileOf (stored ts) ≡ s → GoodTasks ts → Wrote (stored ts) out r out′

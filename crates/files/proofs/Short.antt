@@ -14,7 +14,7 @@ use Rattle.table.proofs.GoodTasks.{FineTask, FineTasks, GoodTasks, times-fit}
 use Rattle.files.specs.Writing.{encodeFile}
 use Rattle.files.specs.RoundTrips.{GoodFileIsShort}
 use Rattle.files.proofs.RowBytes.{rowBytes, rowsBytes, row-parts, rows-none, rows-more, file-parts}
-use Rattle.files.proofs.Sizes.{short, bytes-head, bytes-times}
+use Rattle.fields.proofs.Sizes.{short, bytes-head, bytes-times}
 use Rattle.files.proofs.Stops.{good-tasks}
 use Rattle.files.proofs.Back.{file-back}
 
@@ -22,7 +22,8 @@ use Rattle.files.proofs.Back.{file-back}
 row-short : (used : ℕ) (t : Task) → FineTask used t → length (rowBytes t) ≤ 16 + 4 * length (t .times)
 row-short used t f =
     let fields : length (encodeAll (fieldsOf (rowOf t))) ≤ 16 = rw (bytes-head used) at (short (head used) _ (f .fields)) in
-    let times : length (encodeAll (t .times)) ≤ 4 * length (t .times) = rw (bytes-times (length (t .times))) at (short _ (t .times) (f .times)) in
+    let times : length (encodeAll (t .times)) ≤ 4 * length (t .times)
+    = rw (bytes-times (length (t .times))) at (short _ (t .times) (f .times)) in
     rw (row-parts t, length-append (encodeAll (fieldsOf (rowOf t))) (encodeAll (t .times))) (omega arith)
 
 -- rows one after another

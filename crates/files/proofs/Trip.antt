@@ -1,5 +1,5 @@
 -- The file that good tasks are written as is read back as those tasks. Assumes nothing.
-use Prim.Native.Nat.{ℕ, _+_, _^_, _<_}
+use Prim.Native.Nat.{ℕ, _+_}
 use native.Mathlib.Nat.{add-zero}
 use native.Mathlib.Omega.{arith}
 use borrow.Author.Tests.{le-ltb}
@@ -9,40 +9,20 @@ use lib.ListN.{length, drop, length-append}
 use Rattle.lists.specs.Lists.{each}
 use Rattle.lists.proofs.Each.{each-snoc}
 use Rattle.numbers.specs.Numbers.{encode, encodeAll}
-use Rattle.numbers.proofs.RoundTrip.{read-here, next-here}
+use Rattle.numbers.proofs.RoundTrip.{next-here}
 use Rattle.model.specs.Task.{Task}
-use Rattle.table.specs.Verdicts.{good}
-use Rattle.table.specs.Fields.{Wanted, field, head, fieldsOf}
+use Rattle.table.specs.Fields.{field, head, fieldsOf}
 use Rattle.table.specs.Memory.{rowOf, allTimes, rowsOf}
 use Rattle.table.specs.Clash.{clashOf}
 use Rattle.table.proofs.Codes.{is-good}
-use Rattle.table.proofs.Fine.{Fine, AllFine, fine-good}
+use Rattle.table.proofs.Fine.{Fine}
 use Rattle.table.proofs.GoodTasks.{FineTask, FineTasks, GoodTasks}
-use Rattle.files.specs.Reading.{go, _then_, unless, asked, fieldAt, fieldsAt, rowAt, rowsAt, endAt, decode}
+use Rattle.fields.specs.Stepping.{go, _then_, unless}
+use Rattle.fields.proofs.Sizes.{four-head, four-times}
+use Rattle.fields.proofs.Here.{field-here, fields-here}
+use Rattle.files.specs.Reading.{rowAt, rowsAt, endAt, decode}
 use Rattle.files.specs.Writing.{encodeFile}
 use Rattle.files.proofs.RowBytes.{rowBytes, rowsBytes, row-parts, rows-none, rows-more, file-parts}
-use Rattle.files.proofs.Sizes.{Four, four-head, four-times}
-
--- a number that may stand there and stands there is read
-field-here : (w : Wanted) (v : ℕ) (s rest : List ℕ) (at : ℕ) → w .high < 128 ^ 4 → Fine w v → drop at s ≡ encode v ++ rest
-    → fieldAt w s at ≡ go v (at + length (encode v))
-unfolding fieldAt asked unless good
-field-here w v s rest at small f here =
-    ap (asked w s at) (read-here s rest at v (omega (arith, f .most)) here) ∙ rw (fine-good w at v f)
-
--- numbers one after another
-fields-here : (ws : List Wanted) (ns done s rest : List ℕ) (at : ℕ) → Four ws → AllFine ws ns → drop at s ≡ encodeAll ns ++ rest
-    → fieldsAt ws done s at ≡ go (done ++ ns) (at + length (encodeAll ns))
-unfolding Four AllFine each fieldsAt _then_
-fields-here [] [] done s rest at four f here = ap₂ go (sym (append-nil done)) (sym (add-zero at))
-fields-here [] (n ∷ ns) done s rest at four f here = absurd f
-fields-here (w ∷ ws) [] done s rest at four f here = absurd f
-fields-here (w ∷ ws) (n ∷ ns) done s rest at four f here =
-    let first : drop at s ≡ encode n ++ (encodeAll ns ++ rest) = here ∙ append-assoc (encode n) (encodeAll ns) rest in
-    let others : drop (at + length (encode n)) s ≡ encodeAll ns ++ rest = next-here s (encode n) (encodeAll ns ++ rest) at first in
-    rw (field-here w n s (encodeAll ns ++ rest) at (four .0) (f .0) first)
-    (fields-here ws ns (done ++ (n ∷ [])) s rest (at + length (encode n)) (four .1) (f .1) others
-    ∙ ap₂ go (append-assoc done (n ∷ []) ns) (rw length-append (omega arith)))
 
 -- a row: its fields, then its times
 row-here : (used : ℕ) (t : Task) (s rest : List ℕ) (at : ℕ) → FineTask used t → drop at s ≡ rowBytes t ++ rest

@@ -6,14 +6,17 @@ ghost use lib.Seq.{sets};
 ghost use Rattle.lists.specs.Lists.{over};
 ghost use Rattle.numbers.specs.Numbers.{encodeAll};
 ghost use Rattle.model.specs.Task.{Task};
-ghost use Rattle.table.specs.Fields.{want, wanted, Ranges, head, time, fieldsOf};
+ghost use Rattle.table.specs.Fields.{head, time, fieldsOf};
 ghost use Rattle.table.specs.Verdicts.{codeOf};
 ghost use Rattle.table.specs.Faults.{faultOf};
 ghost use Rattle.table.specs.Memory.{stored, tasksOf};
-ghost use Rattle.files.specs.Reading.{stop, _then_, fieldAt, fieldsAt, rowsAt, endAt, loaded, readAnswer};
-ghost use Rattle.files.specs.Promises.{asField, asHead, asBody, Filled, InOrder};
+ghost use Rattle.files.specs.Reading.{rowsAt, endAt, loaded, readAnswer};
+ghost use Rattle.fields.specs.Stepping.{stop, _then_, fieldsAt};
+ghost use Rattle.fields.specs.Promises.{ReadInto};
+ghost use Rattle.files.specs.Promises.{asHead, asBody, closed, InOrder};
 ghost use Rattle.files.specs.Writing.{fileNumbers, Wrote};
-use numbers::Number;
+use fields::Field;
+use fields::Next;
 use table::Row;
 use table::Table;
 use table::Verdict;
@@ -25,21 +28,9 @@ pub struct Loaded {
     pub table: Table,
 }
 
-// A number that may stand there, or why there is none.
-enum Field {
-    Got { value: u32, next: usize },
-    Refused(Verdict),
-}
-
 // A row's fields before its times, or why there are none.
 enum Head {
     Got { row: Row, next: usize },
-    Refused(Verdict),
-}
-
-// Where reading goes on, or why it does not.
-enum Next {
-    At(usize),
     Refused(Verdict),
 }
 
@@ -49,64 +40,25 @@ struct Body {
     table: Table,
 }
 
-// The number at `at`, which may be from `low` to `high` and at most `left`.
-fn read_field(bytes: &[u8], at: usize, low: u32, high: u32, left: u32) -> Field
-    ensures { λ r. ⌜ r ≡ asField (fieldAt (want low high left) (now (bytes .entry)) at) ⌝ }
-{
-    match numbers::number_at(bytes, at) {
-        Number::Got { value, next } => {
-            let v = table::number_fault(value, low, high, left, at);
-            if table::code_of(v) != 0 {
-                return Field::Refused(v);
-            }
-            Field::Got { value, next }
-        }
-        Number::EndsEarly => Field::Refused(Verdict::EndsEarly(bytes.len())),
-        Number::Malformed => Field::Refused(Verdict::Malformed(at)),
-    }
-}
-
-// As many numbers as `out` has room for, each in its own range, from `at` on.
-fn read_fields(
-    bytes: &[u8],
-    at: usize,
-    low: &[u32],
-    high: &[u32],
-    left: &[u32],
-    out: &mut [u32],
-) -> Next
-    requires { ⌜ Ranges (length (now out)) (now low) (now high) (now left) ⌝ }
-    ensures { λ r. ⌜ Filled (fieldsAt (wanted (now (low .entry)) (now (high .entry)) (now (left .entry))) [] (now (bytes .entry)) at)
-        r (now (out .exit)) ⌝ }
-{
-    let mut p = at;
-    let mut i = 0;
-    while i < out.len() {
-        match read_field(bytes, p, low[i], high[i], left[i]) {
-            Field::Refused(v) => return Next::Refused(v),
-            Field::Got { value, next } => {
-                out[i] = value;
-                p = next;
-            }
-        }
-        i += 1;
-    }
-    Next::At(p)
-}
-
 // The fields of the row that begins at `at`, where `used` times are already there.
 fn read_head(bytes: &[u8], at: usize, used: u32) -> Head
+    requires { ⌜ used ≤ 1024 ⌝ }
     ensures { λ r. ⌜ r ≡ asHead (fieldsAt (head used) [] (now (bytes .entry)) at) ⌝ }
 {
     let low = table::LOW;
     let high = table::HIGH;
-    let left = table::left_after(used);
     let mut fields = [0u32; 7];
-    match read_fields(bytes, at, &low, &high, &left, &mut fields) {
+    match fields::read_fields(bytes, at, &low, &high, &mut fields[..6]) {
         Next::Refused(v) => Head::Refused(v),
-        Next::At(next) => Head::Got {
-            row: table::row_of(fields),
-            next,
+        Next::At(p) => match fields::read_field(bytes, p, 1, 64, 1024 - used) {
+            Field::Refused(v) => Head::Refused(v),
+            Field::Got { value, next } => {
+                fields[6] = value;
+                Head::Got {
+                    row: table::row_of(fields),
+                    next,
+                }
+            }
         },
     }
 }
@@ -114,13 +66,13 @@ fn read_head(bytes: &[u8], at: usize, used: u32) -> Head
 // The times of a row, one for each place of `out`.
 fn read_times(bytes: &[u8], at: usize, out: &mut [u32]) -> Next
     requires { ⌜ length (now out) ≤ 64 ⌝ }
-    ensures { λ r. ⌜ Filled (fieldsAt (replicate (length (now (out .entry))) time) [] (now (bytes .entry)) at) r (now (out .exit)) ⌝ }
+    ensures { λ r. ⌜ ReadInto (replicate (length (now (out .entry))) time) (now (bytes .entry)) at
+        (now (out .entry)) r (now (out .exit)) ⌝ }
 {
     let n = out.len();
     let low = [1u32; 64];
     let high = [16777215u32; 64];
-    let left = [16777215u32; 64];
-    read_fields(bytes, at, &low[..n], &high[..n], &left[..n], out)
+    fields::read_fields(bytes, at, &low[..n], &high[..n], out)
 }
 
 // What reading rows gives where it is refused.
@@ -181,7 +133,7 @@ fn refuse(v: Verdict) -> Loaded
 
 // The file's end, then the rules over the whole table.
 fn read_end(bytes: &[u8], at: usize, table: Table) -> Loaded
-    ensures { λ r. ⌜ ((ts : List Task) → table ≡ stored ts → r ≡ loaded (endAt (now (bytes .entry)) ts at)) ⌝ }
+    ensures { λ r. ⌜ r ≡ closed (now (bytes .entry)) at table ⌝ }
 {
     if at < bytes.len() {
         return refuse(Verdict::Trailing(at));
@@ -214,7 +166,7 @@ fn read_body(bytes: &[u8], at: usize, n: usize) -> Loaded
 pub fn read(bytes: &[u8]) -> Loaded
     ensures { λ r. ⌜ r ≡ readAnswer (now (bytes .entry)) ⌝ }
 {
-    match read_field(bytes, 0, 0, 64, 64) {
+    match fields::read_field(bytes, 0, 0, 64, 64) {
         Field::Refused(v) => refuse(v),
         Field::Got { value, next } => read_body(bytes, next, value as usize),
     }

@@ -2,8 +2,8 @@
 use Prim.Native.Nat.{ℕ, _+_, _-_, _≤_}
 use native.Mathlib.Omega.{arith}
 use mathlib.Core.Path.{_≡_, ap, _∙_}
-use mathlib.Core.List.{List, _++_}
-use lib.ListN.{length, take, drop}
+use mathlib.Core.List.{List, _++_, append-nil}
+use lib.ListN.{length, take, drop, drop-of-length-le}
 use lib.Seq.{sets}
 use Rattle.lists.specs.Lists.{over}
 use Rattle.lists.proofs.Stores.{sets-from}
@@ -22,3 +22,8 @@ module _ {A : Type 0} (new old more l : List A) (p : ℕ) (so-far : l ≡ over n
       let put : take p l ++ (part ++ drop (length l - p) (drop p l)) ≡ sets l p more
       = rw e (sets-from l p more (omega (arith, behind-long))) in
       put ∙ rw (so-far, place) (over-more new old more (omega arith))
+
+-- new that is as long as the old takes its place
+pub over-full : {A : Type 0} (new old : List A) → length old ≤ length new → over new old ≡ new
+unfolding over
+over-full new old h = rw (drop-of-length-le old h) (append-nil new)

@@ -1,4 +1,5 @@
--- Document 01, "The file": numbers in groups of seven bits, low group first, the high bit set on every byte but the last, shortest form only.
+-- Document 01, "The file": numbers in groups of seven bits, low group first, the high bit set on every byte but the last,
+-- shortest form only.
 use Prim.Native.Nat.{ℕ, zero, suc, _+_, _-_, _*_, _/_, _%_, _<_}
 use mathlib.Core.Path.{_≡_}
 use mathlib.Core.List.{List, [], _∷_}

@@ -19,10 +19,12 @@ pub record Fine (w : Wanted) (n : ℕ) : Type 0 where
   pub room : n ≤ w .left
 
 module _ (w : Wanted) (carried n : ℕ) where
+  -- it has no fault
   pub fine-good : Fine w n → judge w carried n ≡ Good
   unfolding judge
   fine-good f = rw (le-ltb n (w .low) (f .least), le-ltb (w .high) n (f .most), le-ltb (w .left) n (f .room))
 
+  -- and no other has none
   pub good-fine : codeOf (judge w carried n) ≡ 0 → Fine w n
   unfolding judge
   good-fine e =
@@ -39,6 +41,7 @@ AllFine [] (n ∷ ns) = ⊥
 AllFine (w ∷ ws) [] = ⊥
 AllFine (w ∷ ws) (n ∷ ns) = Fine w n × AllFine ws ns
 
+-- such numbers have no fault
 pub all-good : (ws : List Wanted) (carried : ℕ) (ns : List ℕ) → AllFine ws ns → faultIn ws carried ns ≡ Good
 unfolding AllFine faultIn
 all-good [] carried ns f = refl
@@ -46,6 +49,7 @@ all-good (w ∷ ws) carried [] f = refl
 all-good (w ∷ ws) carried (n ∷ ns) f =
     or-good (judge w carried n) _ (ap codeOf (fine-good w carried n (f .0))) ∙ all-good ws carried ns (f .1)
 
+-- and no others have none
 pub good-all : (ws : List Wanted) (carried : ℕ) (ns : List ℕ) → length ws ≡ length ns → codeOf (faultIn ws carried ns) ≡ 0 → AllFine ws ns
 unfolding AllFine faultIn
 good-all [] carried [] l e = tt

@@ -2,12 +2,26 @@
 use Prim.Native.Nat.{ℕ, _+_, _≤_}
 use native.Mathlib.Omega.{arith}
 use mathlib.Core.Path.{_≡_, refl}
+use mathlib.Core.List.{List, [], _∷_, _++_}
 use Rattle.model.specs.Rows.{Within}
 use Rattle.table.specs.declared.Row.{Row}
 use Rattle.table.specs.Verdicts.{codeOf}
-use Rattle.table.specs.Fields.{field, head, fieldsOf, faultIn}
+use Rattle.table.specs.Fields.{field, head, partCount, wanted, fieldsOf, faultIn}
 use Rattle.table.proofs.Fine.{Fine, AllFine, good-all}
 
+-- the ranges of the fields before the part count, as the code's constants have them
+unfoldable pub lows : List ℕ
+lows = 1 ∷ 0 ∷ 0 ∷ 1 ∷ 1 ∷ 1 ∷ []
+
+unfoldable pub highs : List ℕ
+highs = 65535 ∷ 3 ∷ 1 ∷ 255 ∷ 16777215 ∷ 16777215 ∷ []
+
+-- first these, then the part count
+pub head-split : (used : ℕ) → head used ≡ wanted lows highs ++ (partCount used ∷ [])
+unfolding head wanted lows highs
+head-split used = refl
+
+-- a row whose fields are in their ranges, with `used` times before it
 pub record GoodHead (used : ℕ) (r : Row) : Type 0 where
   pub id : Within 1 65535 (r .id)
   pub core : Within 0 3 (r .core)
@@ -18,9 +32,11 @@ pub record GoodHead (used : ℕ) (r : Row) : Type 0 where
   pub parts : Within 1 64 (r .parts)
   pub room : used + r .parts ≤ 1024
 
+-- a fine plain field is in its range
 within : (low high n : ℕ) → Fine (field low high) n → Within low high n
 within low high n f = record { least = f .least; most = f .most }
 
+-- fine fields are in their ranges
 pub good-head : (used : ℕ) (r : Row) → AllFine (head used) (fieldsOf r) → GoodHead used r
 unfolding head AllFine
 good-head used r f =

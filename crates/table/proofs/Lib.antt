@@ -1,6 +1,6 @@
 pub mod Clashes
 pub mod Codes
-pub mod Ranges
+pub mod FieldRanges
 pub mod Fine
 pub mod Heads
 pub mod Rows

@@ -48,7 +48,7 @@ unfolding rowsFault rowFault
 rows-reading i used [] times = refl
 rows-reading i used (r ∷ rs) times =
     or-reading _ _
-    (or-reading (faultIn (head used) i (fieldsOf r)) _ (faults-reading (head used) i (fieldsOf r)) (faults-reading (replicate (r .parts) time) i _))
+    (or-reading _ _ (faults-reading (head used) i (fieldsOf r)) (faults-reading (replicate (r .parts) time) i _))
     (rows-reading (suc i) (used + r .parts) rs (drop (r .parts) times))
 
 -- a rule's verdict

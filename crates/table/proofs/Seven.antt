@@ -24,5 +24,5 @@ seven used ns f =
     let cell : (i : ℕ) → i < 7 → drop i ns ≡ getD ns i 0 ∷ drop (suc i) ns = λ i h. drop-cons ns i 0 (omega arith) in
     let past : length ns ≤ 7 = omega arith in
     sym (cell 0 (omega arith)
-    ∙ rw (cell 1 (omega arith), cell 2 (omega arith), cell 3 (omega arith), cell 4 (omega arith), cell 5 (omega arith), cell 6 (omega arith))
-    (rw (drop-of-length-le ns past)))
+    ∙ rw (cell 1 (omega arith), cell 2 (omega arith), cell 3 (omega arith))
+    (rw (cell 4 (omega arith), cell 5 (omega arith), cell 6 (omega arith), drop-of-length-le ns past)))

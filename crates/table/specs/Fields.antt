@@ -40,10 +40,6 @@ head used =
     ∷ partCount used
     ∷ []
 
--- what is left for each of these, as the code has it
-abbrev pub leftAfter : ℕ → List ℕ
-leftAfter used = 65535 ∷ 3 ∷ 1 ∷ 255 ∷ 16777215 ∷ 16777215 ∷ (1024 - used) ∷ []
-
 -- one worst time
 abbrev pub time : Wanted
 time = field 1 16777215
@@ -64,18 +60,16 @@ rowFrom fields =
 abbrev pub fieldsOf : Row → List ℕ
 fieldsOf r = r .id ∷ r .core ∷ r .kind ∷ r .priority ∷ r .period ∷ r .deadline ∷ r .parts ∷ []
 
--- the same as the code has it: three lists
-unfoldable pub wanted : List ℕ → List ℕ → List ℕ → List Wanted
-wanted (l ∷ ls) (h ∷ hs) (f ∷ fs) = want l h f ∷ wanted ls hs fs
-wanted [] hs fs = []
-wanted (l ∷ ls) [] fs = []
-wanted (l ∷ ls) (h ∷ hs) [] = []
+-- plain fields as the code has them: two lists
+unfoldable pub wanted : List ℕ → List ℕ → List Wanted
+wanted (l ∷ ls) (h ∷ hs) = field l h ∷ wanted ls hs
+wanted [] hs = []
+wanted (l ∷ ls) [] = []
 
--- n of them
-pub record Ranges (n : ℕ) (low high left : List ℕ) : Type 0 where
+-- n of each
+pub record LowsHighs (n : ℕ) (low high : List ℕ) : Type 0 where
   pub lows : length low ≡ n
   pub highs : length high ≡ n
-  pub lefts : length left ≡ n
 
 -- a number's own fault: 3, then 7; each carries the number given
 unfoldable pub judge : Wanted → ℕ → ℕ → Verdict

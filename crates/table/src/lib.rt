@@ -3,7 +3,7 @@ ghost use mathlib.Core.List.{[]};
 ghost use Prim.Native.Nat.{_≤_, min};
 ghost use lib.ListN.{length, drop, replicate};
 ghost use Rattle.table.specs.Verdicts.{codeOf, numberOf};
-ghost use Rattle.table.specs.Fields.{head, time, want, wanted, Ranges, leftAfter, judge, faultIn, fieldsOf, rowFrom};
+ghost use Rattle.table.specs.Fields.{head, time, want, wanted, LowsHighs, judge, faultIn, fieldsOf, rowFrom};
 ghost use Rattle.table.specs.Memory.{stored, usedRows};
 ghost use Rattle.table.specs.Clash.{breaks, coopAbove, clash, broken, ruleVerdict, clashOf};
 ghost use Rattle.table.specs.Written.{noneWritten};
@@ -109,40 +109,25 @@ pub fn refused(v: Verdict) -> Written
     }
 }
 
-// The seven fields of a row before its times, in file order: the least value of each.
-pub const LOW: [u32; 7] = [
+// The fields of a row before its part count, in file order: the least value of each.
+pub const LOW: [u32; 6] = [
     1, // id
     0, // core
     0, // type: 0 preemptive, 1 cooperative
     1, // priority
     1, // period
     1, // deadline
-    1, // part count
 ];
 
 // The largest value of each.
-pub const HIGH: [u32; 7] = [
+pub const HIGH: [u32; 6] = [
     65535, // id
     3, // core
     1, // type
     255, // priority
     16777215, // period
     16777215, // deadline
-    64, // part count
 ];
-
-// How large each may be where `used` of the 1,024 times are taken: only the part count has less than its range.
-pub fn left_after(used: u32) -> [u32; 7]
-    ensures { λ r. ⌜ r ≡ leftAfter used ⌝ }
-{
-    let mut left = HIGH;
-    if 1024 < used {
-        left[6] = 0;
-        return left;
-    }
-    left[6] = 1024 - used;
-    left
-}
 
 // The fields of a row, in file order.
 pub fn fields_of(row: Row) -> [u32; 7]
@@ -303,14 +288,15 @@ pub fn clash_of(t: Table) -> Verdict
     rule_broken(t, Rule::KindsCrossed)
 }
 
-// The first fault of numbers one after another, each with what it may be.
-fn first_fault(numbers: &[u32], low: &[u32], high: &[u32], left: &[u32], carried: usize) -> Verdict
-    requires { ⌜ Ranges (length (now numbers)) (now low) (now high) (now left) ⌝ }
-    ensures { λ r. ⌜ r ≡ faultIn (wanted (now (low .entry)) (now (high .entry)) (now (left .entry))) carried (now (numbers .entry)) ⌝ }
+// The first fault of numbers one after another, each with its range.
+fn first_fault(numbers: &[u32], low: &[u32], high: &[u32], carried: usize) -> Verdict
+    requires { ⌜ LowsHighs (length (now numbers)) (now low) (now high) ⌝ }
+    ensures { λ r. ⌜ r ≡ faultIn (wanted (now (low .entry)) (now (high .entry))) carried (now (numbers .entry)) ⌝ }
 {
     let mut i = 0;
     while i < numbers.len() {
-        let v = number_fault(numbers[i], low[i], high[i], left[i], carried);
+        let most = high[i];
+        let v = number_fault(numbers[i], low[i], most, most, carried);
         if code_of(v) != 0 {
             return v;
         }
@@ -321,13 +307,17 @@ fn first_fault(numbers: &[u32], low: &[u32], high: &[u32], left: &[u32], carried
 
 // The first fault of row i's fields before its times, with `used` times before it.
 fn head_fault(row: Row, used: u32, i: usize) -> Verdict
+    requires { ⌜ used ≤ 1024 ⌝ }
     ensures { λ r. ⌜ r ≡ faultIn (head used) i (fieldsOf row) ⌝ }
 {
     let fields = fields_of(row);
     let low = LOW;
     let high = HIGH;
-    let left = left_after(used);
-    first_fault(&fields, &low, &high, &left, i)
+    let plain = first_fault(&fields[..6], &low, &high, i);
+    if code_of(plain) != 0 {
+        return plain;
+    }
+    number_fault(row.parts, 1, 64, 1024 - used, i)
 }
 
 // The first fault of row i's times.
@@ -338,8 +328,7 @@ fn times_fault(times: &[u32], i: usize) -> Verdict
     let n = times.len();
     let low = [1u32; 64];
     let high = [16777215u32; 64];
-    let left = [16777215u32; 64];
-    first_fault(times, &low[..n], &high[..n], &left[..n], i)
+    first_fault(times, &low[..n], &high[..n], i)
 }
 
 // The first fault of row i, whose times begin at `used`.

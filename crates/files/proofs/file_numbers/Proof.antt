@@ -4,8 +4,8 @@ use native.Mathlib.Omega.{arith}
 use borrow.Author.Needs.{needs}
 use mathlib.Core.Path.{_≡_, refl, sym, ap, _∙_}
 use mathlib.Core.List.{List, [], _∷_, _++_, append-assoc, append-nil}
-use lib.ListN.{length, getD, take, drop, set, length-set, length-append, length-drop}
-use lib.Seq.{sets, drop-set-lt, length-take-le}
+use lib.ListN.{length, getD, take, drop, set, length-set, length-append, length-take, length-drop}
+use lib.Seq.{sets, drop-set-lt}
 use Rattle.lists.specs.Lists.{each, over}
 use Rattle.lists.proofs.Overs.{over-none, over-length, over-one}
 use Rattle.lists.proofs.OverParts.{behind}
@@ -74,13 +74,16 @@ module _ {t : Table} {out₀ out : List ℕ} {p used i : ℕ} (l : Listing t out
     unfolding each
     more = rw (n .first)
 
+    -- they have room
     fits : p + (7 + getD (t .rows) i zeroRow .parts) ≤ 1473
     fits = omega (arith, room, count, ap length more, length-append (rowNumbers (n .task)) (each rowNumbers (n .others)))
 
+    -- one row more
     turn : (part : List ℕ) → part ≡ sets (take (length out - p) (drop p out)) 0 (fieldsOf (getD (t .rows) i zeroRow) ++ lent t used i)
         → Listing t out₀ (take p out ++ (part ++ drop (length out - p) (drop p out))) (p + 7 + getD (t .rows) i zeroRow .parts)
         (used + getD (t .rows) i zeroRow .parts) (i + 1)
     turn part e =
+        let fit : p + length (rowNumbers (n .task)) ≤ length out₀ = omega (arith, fits, count, l .size) in
         record {
           left = n .others;
           ahead = n .ahead;
@@ -89,7 +92,7 @@ module _ {t : Table} {out₀ out : List ℕ} {p used i : ℕ} (l : Listing t out
           short = l .short;
           size = l .size;
           place = rw length-append (omega (arith, l .place, count));
-          put = behind (l .new) out₀ (rowNumbers (n .task)) out p (l .put) (l .place) (omega (arith, fits, count, l .size)) part (rw numbers at e);
+          put = behind (l .new) out₀ (rowNumbers (n .task)) out p (l .put) (l .place) fit part (rw numbers at e);
         }
 
 -- what is new in front of a list, or in front of one that begins so already
@@ -130,20 +133,22 @@ abbrev μ-loop : tie.MeasureT-loop
 μ-loop out₀ t n times p₀ used₀ i₀ out p used i = t .count - i
 
 -- the next row, where the code is at it
-here : (c : tie.In-loop Inv-loop μ-loop) → let l = c .before .loop in Next (c .before .before .before .before .args .t1) (l .used) (l .i) (l .inv .left)
+here : (c : tie.In-loop Inv-loop μ-loop) → let l = c .before .loop in
+    Next (c .before .before .before .before .args .t1) (l .used) (l .i) (l .inv .left)
 here c = next (c .before .loop .inv .left) (c .before .loop .inv .ahead) (c .loop-test .taken)
 
--- its times lie within the table's
-within : (c : tie.In-loop Inv-loop μ-loop) → let t = c .before .before .before .before .args .t1 in let l = c .before .loop in
-    l .used + getD (t .rows) (l .i) zeroRow .parts ≤ length (t .times)
-within c =
-    let long : length (c .before .before .before .before .args .t1 .times) ≡ 1024 = search needs in
-    omega (arith, here c .room)
+-- its times lie within the table's, and its numbers have room
+record Room (t : Table) (out : List ℕ) (p used i : ℕ) : Type 0 where
+  times : length (t .times) ≡ 1024
+  within : used + getD (t .rows) i zeroRow .parts ≤ 1024
+  size : length out ≡ 1473
+  numbers : p + (7 + getD (t .rows) i zeroRow .parts) ≤ 1473
 
--- its numbers have room
-room-here : (c : tie.In-loop Inv-loop μ-loop) → let t = c .before .before .before .before .args .t1 in let l = c .before .loop in
-    (l .p + (7 + getD (t .rows) (l .i) zeroRow .parts) ≤ 1473) × (length (l .out) ≡ 1473)
-room-here c = (fits (c .before .loop .inv) (here c), long (c .before .loop .inv))
+room-here : (c : tie.In-loop Inv-loop μ-loop) → let l = c .before .loop in
+    Room (c .before .before .before .before .args .t1) (l .out) (l .p) (l .used) (l .i)
+room-here c =
+    let l = c .before .loop .inv in
+    record { times = search needs; within = here c .room; size = long l; numbers = fits l (here c) }
 
 cast-out : tie.Need-cast-out Inv-loop μ-loop
 cast-out c =
@@ -172,48 +177,47 @@ cast-end : tie.Need-cast-end Inv-loop μ-loop
 cast-end c = search needs
 
 add-end : tie.Need-add-end Inv-loop μ-loop
-add-end c = omega (arith, within (c .before .before))
+add-end c = omega (arith, room-here (c .before .before))
 
 mul-put-row : tie.Need-mul-put-row Inv-loop μ-loop
-mul-put-row c = omega (arith, within (c .before .before))
+mul-put-row c = omega (arith, room-here (c .before .before))
 
 sub-put-row : tie.Need-sub-put-row Inv-loop μ-loop
-sub-put-row c = omega (arith, within (c .before .before))
+sub-put-row c = omega (arith, room-here (c .before .before))
 
 part-put-row-start : tie.Need-part-put-row-start Inv-loop μ-loop
-part-put-row-start c = omega (arith, within (c .before .before .before))
+part-put-row-start c = omega (arith, room-here (c .before .before .before))
 
 part-put-row-end : tie.Need-part-put-row-end Inv-loop μ-loop
-part-put-row-end c = omega (arith, within (c .before .before .before))
+part-put-row-end c = omega (arith, room-here (c .before .before .before))
 
 mul-put-row-2 : tie.Need-mul-put-row-2 Inv-loop μ-loop
-mul-put-row-2 c = omega (arith, room-here (c .before .before .before .before) .0, room-here (c .before .before .before .before) .1)
+mul-put-row-2 c = omega (arith, room-here (c .before .before .before .before))
 
 sub-put-row-2 : tie.Need-sub-put-row-2 Inv-loop μ-loop
-sub-put-row-2 c = omega (arith, room-here (c .before .before .before .before) .0, room-here (c .before .before .before .before) .1)
+sub-put-row-2 c = omega (arith, room-here (c .before .before .before .before))
 
 part-put-row-start-2 : tie.Need-part-put-row-start-2 Inv-loop μ-loop
-part-put-row-start-2 c = omega (arith, room-here (c .before .before .before .before) .0, room-here (c .before .before .before .before) .1)
+part-put-row-start-2 c = omega (arith, room-here (c .before .before .before .before))
 
 part-put-row-end-2 : tie.Need-part-put-row-end-2 Inv-loop μ-loop
-part-put-row-end-2 c = omega (arith, room-here (c .before .before .before .before) .0, room-here (c .before .before .before .before) .1)
+part-put-row-end-2 c = omega (arith, room-here (c .before .before .before .before))
 
 put-row-requires : tie.Need-put-row-requires Inv-loop μ-loop
 put-row-requires c κs =
     let c5 = c .before .before .before .before .before in
     let l = c5 .before .loop in
-    let rest : length (drop (l .p) (l .out)) ≡ length (l .out) - l .p = length-drop (l .p) (l .out) in
-    rw (lent-length (here c5), length-take-le (length (l .out) - l .p) (drop (l .p) (l .out)) (omega arith))
-    (omega (arith, room-here c5 .0, room-here c5 .1))
+    rw (lent-length (here c5), length-take, length-drop)
+    (omega (arith, room-here c5))
 
 add-p : tie.Need-add-p Inv-loop μ-loop
-add-p c = omega (arith, room-here (c .before .before .before .before .before .before .before .before) .0, room-here (c .before .before .before .before .before .before .before .before) .1)
+add-p c = omega (arith, room-here (c .before .before .before .before .before .before .before .before))
 
 cast-p : tie.Need-cast-p Inv-loop μ-loop
 cast-p c = search needs
 
 add-p-2 : tie.Need-add-p-2 Inv-loop μ-loop
-add-p-2 c = omega (arith, room-here (c .before .before .before .before .before .before .before .before .before) .0, room-here (c .before .before .before .before .before .before .before .before .before) .1)
+add-p-2 c = omega (arith, room-here (c .before .before .before .before .before .before .before .before .before))
 
 add-i : tie.Need-add-i Inv-loop μ-loop
 add-i c = search needs

@@ -3,7 +3,7 @@ use borrow.Author.Needs.{needs}
 use mathlib.Core.Path.{ap}
 use Rattle.table.specs.declared.Table.{Table}
 use Rattle.files.specs.declared.Body.{Body}
-use Rattle.files.specs.declared.Next.the-variants.{Refused}
+use Rattle.fields.specs.declared.Next.the-variants.{Refused}
 use Rattle.files.proofs.no_rows.Statement.{statement}
 use Rattle.files.proofs.no_rows.Tie as tie
 

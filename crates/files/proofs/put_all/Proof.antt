@@ -38,19 +38,23 @@ module _ {out₀ ns out : List ℕ} {p i : ℕ} (k : Putting out₀ ns out p i) 
     next : p + r ≡ length (encodeAll (take (i + 1) ns))
     next = rw (more, length-append) (omega (arith, k .place, put .size))
 
+    -- it has room
     fits-here : p + r ≤ length out₀
     fits-here = omega (arith, next, k .fits, each-within encode ns (i + 1))
 
+    -- one number more
     turn : Putting out₀ ns (take p out ++ (part ++ drop (length out - p) (drop p out))) (p + r) (i + 1)
     turn = record {
       fits = k .fits;
       upto = omega arith;
       place = next;
       put =
-          behind (encodeAll (take i ns)) out₀ (encode (getD ns i 0)) out p (k .put) (k .place) (omega (arith, fits-here, put .size)) part (put .bytes)
+          behind (encodeAll (take i ns)) out₀ (encode (getD ns i 0)) out p (k .put) (k .place) (omega (arith, fits-here, put .size)) part
+          (put .bytes)
           ∙ rw more;
     }
 
+  -- after the last
   ends : length ns ≤ i → out ≡ over (encodeAll ns) out₀
   ends h = k .put ∙ rw (take-all i ns h)
 

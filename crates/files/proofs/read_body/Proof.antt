@@ -2,38 +2,62 @@
 use Prim.Native.Nat.{ℕ}
 use native.Mathlib.Omega.{arith}
 use borrow.Author.Needs.{needs}
-use mathlib.Core.Path.{_≡_, sym, ap, _∙_}
+use mathlib.Core.Path.{_≡_, refl, sym, ap, _∙_}
+use mathlib.Core.Bool.{Bool, true, false}
 use mathlib.Core.List.{List}
+use lib.ListN.{length}
+use lib.Dec.{ltb}
+use Rattle.lists.specs.Lists.{pick}
 use Rattle.model.specs.Task.{Task}
 use Rattle.table.specs.declared.Verdict.{Verdict}
-use Rattle.table.specs.Memory.{stored}
+use Rattle.table.specs.declared.Verdict.the-variants.{Good, Trailing}
+use Rattle.table.specs.Verdicts.{good}
+use Rattle.table.specs.Memory.{rowsOf, stored}
+use Rattle.table.specs.Clash.{clashOf}
+use Rattle.table.proofs.Stored.{stored-rows}
 use Rattle.files.specs.declared.Body.{Body}
 use Rattle.files.specs.declared.Loaded.{Loaded}
-use Rattle.files.specs.declared.Next.{Next}
-use Rattle.files.specs.declared.Next.the-variants.{At, Refused}
-use Rattle.files.specs.Reading.{Step, stop, go, _then_, endAt, loaded}
-use Rattle.files.specs.Promises.{asBody}
+use Rattle.fields.specs.declared.Next.{Next}
+use Rattle.fields.specs.declared.Next.the-variants.{At, Refused}
+use Rattle.fields.specs.Stepping.{Step, stop, go, _then_, unless}
+use Rattle.files.specs.Reading.{endAt, loaded}
+use Rattle.files.specs.Promises.{asBody, closed}
 use Rattle.files.proofs.read_body.Statement.{statement}
 use Rattle.files.proofs.read_body.Tie as tie
+
+-- stored tasks are closed as the definition says
+closes : (s : List ℕ) (ts : List Task) (at : ℕ) → closed s at (stored ts) ≡ loaded (endAt s ts at)
+unfolding closed endAt unless
+closes s ts at = rw (stored-rows ts) (by (ltb at (length s)) (good (clashOf (rowsOf ts))))
+  where
+    by : (a b : Bool)
+        → pick a (loaded (stop (Trailing at))) (pick b (record { verdict = Good; table = stored ts }) (loaded (stop (clashOf (rowsOf ts)))))
+        ≡ loaded (pick a (stop (Trailing at)) (pick b (go ts at) (stop (clashOf (rowsOf ts)))))
+    by true b = refl
+    by false true = refl
+    by false false = refl
 
 module _ (s : List ℕ) (b : Body) where
   -- where the rows were read to
   next-is : (x : Step (List Task)) {n : Next} → b ≡ asBody x → b .next ≡ n → asBody x .next ≡ n
   next-is x read e = sym (ap (λ (k : Body). k .next) read) ∙ e
 
+  -- the rows are refused
   stops : (x : Step (List Task)) → b ≡ asBody x → (v : Verdict) → b .next ≡ Refused v → loaded (stop v) ≡ loaded (x then endAt s)
   unfolding _then_
   stops (stop w) read v e = let q = next-is (stop w) read e in let same : w ≡ v = cc in rw same
   stops (go ts m) read v e = let q = next-is (go ts m) read e in let z : _≡_ {A = ℕ} 0 1 = cc in absurd (omega arith)
 
-  ends : (x : Step (List Task)) → b ≡ asBody x → (p : ℕ) (r : Loaded) → b .next ≡ At p
-      → ((ts : List Task) → b .table ≡ stored ts → r ≡ loaded (endAt s ts p)) → r ≡ loaded (x then endAt s)
+  -- the rows are read, and the end follows
+  ends : (x : Step (List Task)) → b ≡ asBody x → (p : ℕ) (r : Loaded) → b .next ≡ At p → r ≡ closed s p (b .table)
+      → r ≡ loaded (x then endAt s)
   unfolding _then_
   ends (stop w) read p r e said = let q = next-is (stop w) read e in let z : _≡_ {A = ℕ} 0 1 = cc in absurd (omega arith)
   ends (go ts m) read p r e said =
       let q = next-is (go ts m) read e in
       let same : m ≡ p = cc in
-      rw same (said ts (ap (λ (k : Body). k .table) read))
+      let lies : b .table ≡ stored ts = ap (λ (k : Body). k .table) read in
+      said ∙ ap (closed s p) lies ∙ rw (closes s ts p, same)
 
 read-rows-requires : tie.Need-read-rows-requires
 read-rows-requires c κs = search needs

@@ -1,45 +1,45 @@
--- `files::read_end` meets its contract: each return is one case of `endAt`. Assumes nothing.
+-- `files::read_end` meets its contract: each return is one case of `closed`. Assumes nothing.
 use Prim.Native.Nat.{ℕ, _≤_, _<_}
 use borrow.Author.Needs.{needs}
 use borrow.Author.Tests.{lt-ltb, le-ltb}
-use mathlib.Core.Path.{_≡_, ap, _∙_}
+use mathlib.Core.Path.{_≡_, sym, _∙_}
 use mathlib.Core.List.{List}
 use lib.ListN.{length}
-use Rattle.model.specs.Task.{Task}
 use Rattle.table.specs.declared.Table.{Table}
 use Rattle.table.specs.declared.Verdict.{Verdict}
 use Rattle.table.specs.declared.Verdict.the-variants.{Good, Trailing}
 use Rattle.table.specs.Verdicts.{codeOf}
-use Rattle.table.specs.Memory.{usedRows, stored, rowsOf}
+use Rattle.table.specs.Memory.{usedRows}
 use Rattle.table.specs.Clash.{clashOf}
-use Rattle.table.proofs.Stored.{stored-rows}
-use Rattle.files.specs.Reading.{stop, endAt, loaded}
-use Rattle.files.proofs.Steps.{unless-fault, unless-good}
+use Rattle.table.proofs.Codes.{is-good, is-fault}
+use Rattle.fields.specs.Stepping.{stop}
+use Rattle.files.specs.Reading.{loaded}
+use Rattle.files.specs.Promises.{closed}
 use Rattle.files.proofs.read_end.Statement.{statement}
 use Rattle.files.proofs.read_end.Tie as tie
 
-module _ (s : List ℕ) (at : ℕ) (t : Table) (ts : List Task) (lies : t ≡ stored ts) where
-  past : at < length s → loaded (stop (Trailing at)) ≡ loaded (endAt s ts at)
-  unfolding endAt
+module _ (s : List ℕ) (at : ℕ) (t : Table) where
+  -- a byte is left
+  past : at < length s → loaded (stop (Trailing at)) ≡ closed s at t
+  unfolding closed
   past h = rw (lt-ltb at (length s) h)
 
   module _ (v : Verdict) (k : ℕ) (said : v ≡ clashOf (usedRows t)) (code : k ≡ codeOf v) (all : length s ≤ at) where
-    on-tasks : v ≡ clashOf (rowsOf ts)
-    on-tasks = said ∙ ap (λ (u : Table). clashOf (usedRows u)) lies ∙ ap clashOf (stored-rows ts)
+    -- rows clash
+    clashes : (k ≡ 0 → ⊥) → loaded (stop v) ≡ closed s at t
+    unfolding closed
+    clashes f = rw (le-ltb at (length s) all, ← said, is-fault v (λ e. f (code ∙ e)))
 
-    clashes : (k ≡ 0 → ⊥) → loaded (stop v) ≡ loaded (endAt s ts at)
-    unfolding endAt
-    clashes f = rw (le-ltb at (length s) all, unless-fault on-tasks code ts at f)
-
-    fine : k ≡ 0 → record { verdict = Good; table = t } ≡ loaded (endAt s ts at)
-    unfolding endAt
-    fine e = rw (le-ltb at (length s) all, unless-good on-tasks code ts at e, lies)
+    -- none do
+    fine : k ≡ 0 → record { verdict = Good; table = t } ≡ closed s at t
+    unfolding closed
+    fine e = rw (le-ltb at (length s) all, ← said, is-good v (sym code ∙ e))
 
 refuse-requires : tie.Need-refuse-requires
 refuse-requires c κs = search needs
 
 returns : tie.Need-returns
-returns c = λ ts lies. c .refuse .ensures ∙ past _ _ _ ts lies (c .before .if1 .taken)
+returns c = c .refuse .ensures ∙ past _ _ _ (c .before .if1 .taken)
 
 clash-of-requires : tie.Need-clash-of-requires
 clash-of-requires c κs = search needs
@@ -56,7 +56,7 @@ returns-2 c =
     let c2 = c1 .before in
     let c3 = c2 .before in
     let c4 = c3 .before in
-    λ ts lies. c .refuse2 .ensures ∙ clashes _ _ _ ts lies _ _ (c3 .clash-of .ensures) (c2 .code-of .ensures) (c4 .if1 .left)
+    c .refuse2 .ensures ∙ clashes _ _ _ _ _ (c3 .clash-of .ensures) (c2 .code-of .ensures) (c4 .if1 .left)
     (c1 .if2 .taken)
 
 returns-3 : tie.Need-returns-3
@@ -64,7 +64,7 @@ returns-3 c =
     let c1 = c .before in
     let c2 = c1 .before in
     let c3 = c2 .before in
-    λ ts lies. fine _ _ _ ts lies _ _ (c2 .clash-of .ensures) (c1 .code-of .ensures) (c3 .if1 .left) (c .if2 .left)
+    fine _ _ _ _ _ (c2 .clash-of .ensures) (c1 .code-of .ensures) (c3 .if1 .left) (c .if2 .left)
 
 pub read-end-spec : {M : Type 1} → statement M
 read-end-spec =

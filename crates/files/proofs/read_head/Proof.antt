@@ -1,40 +1,63 @@
--- `files::read_head` meets its contract: the constants are the ranges of `head`. Assumes nothing.
+-- `files::read_head` meets its contract: the fields of which the constants are the ranges, then the part count. Assumes nothing.
 use Prim.Native.Nat.{ℕ}
 use borrow.Author.Needs.{needs}
-use mathlib.Core.Path.{_≡_, sym, ap, _∙_}
-use mathlib.Core.List.{List, [], _∷_}
+use mathlib.Core.Path.{_≡_, refl, sym, ap, _∙_}
+use mathlib.Core.List.{List, [], _∷_, _++_}
+use lib.ListN.{length, set}
+use lib.Seq.{set-at}
 use Rattle.table.specs.declared.Row.{Row}
 use Rattle.table.specs.declared.Verdict.{Verdict}
-use Rattle.table.specs.Fields.{head, wanted, leftAfter, rowFrom}
+use Rattle.table.specs.Fields.{Wanted, head, partCount, wanted, rowFrom}
+use Rattle.table.proofs.Heads.{lows, highs, head-split}
+use Rattle.table.proofs.Seven.{all-length}
+use Rattle.fields.specs.declared.Next.{Next}
+use Rattle.fields.specs.declared.Next.the-variants as X
+use Rattle.fields.specs.Stepping.{stop, go, _then_, fieldAt, fieldsAt}
+use Rattle.fields.specs.Promises.{ReadInto}
+use Rattle.fields.proofs.Steps.{got-field, refused-field, fields-append}
+use Rattle.fields.proofs.Taken.{taken-all}
+use Rattle.fields.proofs.Into.{into-at, into-refused}
 use Rattle.files.specs.declared.Head.the-variants as H
-use Rattle.files.specs.declared.Next.{Next}
-use Rattle.files.specs.declared.Next.the-variants.{At, Refused}
-use Rattle.files.specs.Reading.{fieldsAt}
-use Rattle.files.specs.Promises.{asHead, Filled}
-use Rattle.files.proofs.Steps.{filled-at, filled-refused}
+use Rattle.files.specs.Promises.{asHead}
 use Rattle.files.proofs.read_head.Statement.{statement}
 use Rattle.files.proofs.read_head.Tie as tie
 
-lows : List ℕ
-lows = 1 ∷ 0 ∷ 0 ∷ 1 ∷ 1 ∷ 1 ∷ 1 ∷ []
+module _ (used : ℕ) (s : List ℕ) (at : ℕ) where
+  -- the plain fields, then the part count
+  in-two : fieldsAt (head used) [] s at
+      ≡ (fieldsAt (wanted lows highs) [] s at then λ ns m. fieldAt (partCount used) s m then λ v n. go (ns ++ (v ∷ [])) n)
+  unfolding fieldsAt
+  in-two =
+      ap (λ (ws : List Wanted). fieldsAt ws [] s at) (head-split used)
+      ∙ fields-append (wanted lows highs) (partCount used ∷ []) [] s at
 
-highs : List ℕ
-highs = 65535 ∷ 3 ∷ 1 ∷ 255 ∷ 16777215 ∷ 16777215 ∷ 64 ∷ []
+  module _ (room : List ℕ) (six : length room ≡ 6) (r : Next) (part : List ℕ) (into : ReadInto (wanted lows highs) s at room r part) where
+    -- a plain field is refused
+    plain-stops : (v : Verdict) → r ≡ X.Refused v → H.Refused v ≡ asHead (fieldsAt (head used) [] s at)
+    unfolding _then_
+    plain-stops v e = rw (in-two, into-refused v (rw e at into))
 
-module _ (used : ℕ) (left s : List ℕ) (at : ℕ) (lefts : left ≡ leftAfter used) (r : Next) (out : List ℕ)
-    (filled : Filled (fieldsAt (wanted lows highs left) [] s at) r out) where
-  of-head : fieldsAt (head used) [] s at ≡ fieldsAt (wanted lows highs left) [] s at
-  unfolding lows highs wanted head
-  of-head = rw lefts
+    module _ (m : ℕ) (went : r ≡ X.At m) where
+      -- the plain fields that were read
+      plain : fieldsAt (wanted lows highs) [] s at ≡ go part m
+      unfolding wanted lows highs
+      plain = into-at m (sym six) (rw went at into)
 
-  stops : (v : Verdict) → r ≡ Refused v → H.Refused v ≡ asHead (fieldsAt (head used) [] s at)
-  stops v e = sym (ap asHead (of-head ∙ filled-refused _ v out (rw e at filled)))
+      -- there are six
+      count : length part ≡ 6
+      unfolding wanted lows highs
+      count = all-length (wanted lows highs) part (taken-all (wanted lows highs) s at part m plain .fine)
 
-  ends : (n : ℕ) → r ≡ At n → H.Got (rowFrom out) n ≡ asHead (fieldsAt (head used) [] s at)
-  ends n e = sym (ap asHead (of-head ∙ filled-at _ n out (rw e at filled)))
+      -- the part count is refused
+      count-stops : (v : Verdict) → fieldAt (partCount used) s m ≡ stop v → H.Refused v ≡ asHead (fieldsAt (head used) [] s at)
+      unfolding _then_
+      count-stops v e = rw (in-two, plain, e)
 
-left-after-requires : tie.Need-left-after-requires
-left-after-requires c κs = search needs
+      -- all seven are read
+      ends : (v n : ℕ) → fieldAt (partCount used) s m ≡ go v n
+          → H.Got (rowFrom (set (part ++ (0 ∷ [])) 6 v)) n ≡ asHead (fieldsAt (head used) [] s at)
+      unfolding _then_
+      ends v n e = rw (in-two, plain, e, set-at part 0 [] v 6 count)
 
 slice-aggregate-read-fields : tie.Need-slice-aggregate-read-fields
 slice-aggregate-read-fields c = search needs
@@ -42,11 +65,11 @@ slice-aggregate-read-fields c = search needs
 slice-aggregate-read-fields-2 : tie.Need-slice-aggregate-read-fields-2
 slice-aggregate-read-fields-2 c = search needs
 
+array-borrow-prefix-fields : tie.Need-array-borrow-prefix-fields
+array-borrow-prefix-fields c = search needs
+
 slice-aggregate-read-fields-3 : tie.Need-slice-aggregate-read-fields-3
 slice-aggregate-read-fields-3 c = search needs
-
-slice-aggregate-read-fields-4 : tie.Need-slice-aggregate-read-fields-4
-slice-aggregate-read-fields-4 c = search needs
 
 read-fields-requires : tie.Need-read-fields-requires
 read-fields-requires c κs = search needs
@@ -54,8 +77,23 @@ read-fields-requires c κs = search needs
 enum-known-v : tie.Need-enum-known-v
 enum-known-v c = search needs
 
-enum-known-next : tie.Need-enum-known-next
-enum-known-next c = search needs
+enum-known-p : tie.Need-enum-known-p
+enum-known-p c = search needs
+
+sub-read-field : tie.Need-sub-read-field
+sub-read-field c = search needs
+
+read-field-requires : tie.Need-read-field-requires
+read-field-requires c κs = search needs
+
+enum-known-v-2 : tie.Need-enum-known-v-2
+enum-known-v-2 c = search needs
+
+enum-known-value : tie.Need-enum-known-value
+enum-known-value c = search needs
+
+array-write-fields : tie.Need-array-write-fields
+array-write-fields c = search needs
 
 row-of-requires : tie.Need-row-of-requires
 row-of-requires c κs = search needs
@@ -65,31 +103,46 @@ unfolding lows highs
 returns c =
     let c1 = c .before in
     let c4 = c1 .before .before .before in
-    let c9 = c4 .before .before .before .before .before in
-    stops _ _ _ _ (c9 .left-after .ensures) _ _ (c4 .read-fields .ensures) _ (c1 .v .given .1)
+    plain-stops _ _ _ _ refl _ _ (c4 .read-fields .ensures) _ (c1 .v .given .1)
 
 returns-2 : tie.Need-returns-2
 unfolding lows highs
 returns-2 c =
+    let c1 = c .before in
+    let c3 = c1 .before .before in
+    let c5 = c3 .before .before in
+    let c8 = c5 .before .before .before in
+    count-stops _ _ _ _ refl _ _ (c8 .read-fields .ensures) _ (c5 .p .given .1) _
+    (refused-field _ _ (sym (c1 .v2 .given .1) ∙ c3 .read-field .ensures))
+
+returns-3 : tie.Need-returns-3
+unfolding lows highs
+returns-3 c =
     let c2 = c .before .before in
-    let c2 = c2 in
-    let c5 = c2 .before .before .before in
-    let c10 = c5 .before .before .before .before .before in
-    ap (λ (row : Row). H.Got row (c2 .next .given .0 .0)) (c .row-of .ensures)
-    ∙ ends _ _ _ _ (c10 .left-after .ensures) _ _ (c5 .read-fields .ensures) _ (c2 .next .given .1)
+    let c4 = c2 .before .before in
+    let c6 = c4 .before .before in
+    let c9 = c6 .before .before .before in
+    ap (λ (row : Row). H.Got row (c2 .value .given .0 .1 .0)) (c .row-of .ensures)
+    ∙ ends _ _ _ _ refl _ _ (c9 .read-fields .ensures) _ (c6 .p .given .1) _ _
+    (got-field _ _ _ (sym (c2 .value .given .1) ∙ c4 .read-field .ensures))
 
 pub read-head-spec : {M : Type 1} → statement M
 read-head-spec =
     tie.close
     (tie.spec
-    left-after-requires
     slice-aggregate-read-fields
     slice-aggregate-read-fields-2
+    array-borrow-prefix-fields
     slice-aggregate-read-fields-3
-    slice-aggregate-read-fields-4
     read-fields-requires
     enum-known-v
-    enum-known-next
+    enum-known-p
+    sub-read-field
+    read-field-requires
+    enum-known-v-2
+    enum-known-value
+    array-write-fields
     row-of-requires
     returns
-    returns-2)
+    returns-2
+    returns-3)

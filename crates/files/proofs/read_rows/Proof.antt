@@ -18,12 +18,14 @@ use Rattle.table.specs.Memory.{taskOf, allTimes}
 use Rattle.table.proofs.Laid.{Laid, laid-stored, times-long, laid-part}
 use Rattle.table.proofs.Heads.{GoodHead}
 use Rattle.table.proofs.Seven.{all-length}
-use Rattle.files.specs.declared.Next.the-variants.{At}
-use Rattle.files.specs.Reading.{Step, stop, go, fieldsAt, rowAt, rowsAt}
+use Rattle.fields.specs.declared.Next.the-variants.{At}
+use Rattle.fields.specs.Stepping.{Step, stop, go, fieldsAt}
+use Rattle.files.specs.Reading.{rowAt, rowsAt}
 use Rattle.files.specs.Promises.{asBody}
-use Rattle.files.proofs.Steps.{GotHead, got-head, refused-head, filled-at, filled-refused}
+use Rattle.fields.proofs.Into.{into-at, into-refused}
+use Rattle.files.proofs.Steps.{GotHead, got-head, refused-head}
 use Rattle.files.proofs.Steps.{row-more, row-fields-stop, row-times-stop, rows-more, rows-stop, rows-none}
-use Rattle.files.proofs.Taken.{taken-all, head-read}
+use Rattle.fields.proofs.Taken.{taken-all, head-read}
 use Rattle.files.proofs.read_rows.Statement.{statement}
 use Rattle.files.proofs.read_rows.Tie as tie
 
@@ -35,6 +37,7 @@ record Loading (s : List ℕ) (at n : ℕ) (rows : List Row) (times : List ℕ) 
   same : rowsAt n [] s at ≡ rowsAt (n - i) done s p
 
 module _ {s : List ℕ} {at n : ℕ} {rows : List Row} {times : List ℕ} {p used i : ℕ} (l : Loading s at n rows times p used i) where
+  -- after the last row
   ends : n ≤ i → record { next = At p; table = record { count = n; rows = rows; times = times } } ≡ asBody (rowsAt n [] s at)
   ends h =
       let last : n ≡ i = omega (arith, l .upto) in
@@ -49,13 +52,16 @@ module _ {s : List ℕ} {at n : ℕ} {rows : List Row} {times : List ℕ} {p use
     here : {x : Step Task} → rowAt used s p ≡ x → rowAt (length (allTimes (l .done))) s p ≡ x
     here e = rw (l .laid .total) at e
 
+    -- a row is refused
     stops : (v : Verdict) → rowAt used s p ≡ stop v → asBody (stop v) ≡ asBody (rowsAt n [] s at)
     stops v e = sym (ap asBody (l .same ∙ rows-stop (n - i) (l .done) s p (omega arith) v (here e)))
 
+    -- by its fields
     head-stops : (v : Verdict) → fieldsAt (head used) [] s p ≡ stop v → asBody (stop v) ≡ asBody (rowsAt n [] s at)
     head-stops v e = stops v (row-fields-stop used s p v e)
 
     module _ {row : Row} {q : ℕ} (g : GotHead (fieldsAt (head used) [] s p) row q) where
+      -- its fields are in their ranges
       good-row : GoodHead used row
       good-row = rw (g .is) at (head-read used s p (g .fields) q (g .first))
 
@@ -63,6 +69,7 @@ module _ {s : List ℕ} {at n : ℕ} {rows : List Row} {times : List ℕ} {p use
       slot : length (take (used + row .parts - used) (drop used times)) ≡ row .parts
       slot = part-length used (row .parts) times (rw (times-long (l .laid) (l .room)) (good-row .room))
 
+      -- or by its times
       times-stops : (v : Verdict) → fieldsAt (replicate (row .parts) time) [] s q ≡ stop v → asBody (stop v) ≡ asBody (rowsAt n [] s at)
       times-stops v e = stops v (row-times-stop used s p g v e)
 
@@ -71,6 +78,7 @@ module _ {s : List ℕ} {at n : ℕ} {rows : List Row} {times : List ℕ} {p use
         full : length ts ≡ row .parts
         full = all-length _ ts (taken-all (replicate (row .parts) time) s q ts m read .fine) ∙ length-replicate (row .parts) time
 
+        -- one row more
         turn : Loading s at n (set rows i row) (take used times ++ (ts ++ drop (used + row .parts - used) (drop used times))) m
             (used + row .parts) (i + 1)
         turn =
@@ -128,7 +136,7 @@ loop-holds c =
     }
 
 read-head-requires : tie.Need-read-head-requires Inv-loop μ-loop
-read-head-requires c κs = search needs
+read-head-requires c κs = c .before .loop .inv .room
 
 enum-known-v : tie.Need-enum-known-v Inv-loop μ-loop
 enum-known-v c = search needs
@@ -196,7 +204,7 @@ returns-2 c =
     let c13 = c12 .before in
     let c16 = c13 .before .before .before in
     c .no-rows2 .ensures ∙ times-stops (c13 .loop .inv) (c16 .pre) (c12 .loop-test .taken) (got-row (c9)) _
-    (rw (slot-of (c9)) at (filled-refused _ _ _ (rw (c2 .v2 .given .1) at (c5 .read-times .ensures))))
+    (rw (slot-of (c9)) at (into-refused _ (rw (c2 .v2 .given .1) at (c5 .read-times .ensures))))
 
 enum-known-q : tie.Need-enum-known-q Inv-loop μ-loop
 enum-known-q c = search needs
@@ -226,7 +234,7 @@ loop-again c =
     let c12 = c11 .before in
     let c15 = c12 .before .before .before in
     turn (c12 .loop .inv) (c15 .pre) (c11 .loop-test .taken) (got-row (c8)) _ _
-    (rw (slot-of (c8)) at (filled-at _ _ _ (rw (c1 .q .given .1) at (c4 .read-times .ensures))))
+    (rw (slot-of (c8)) at (into-at _ (length-replicate _ time) (rw (c1 .q .given .1) at (c4 .read-times .ensures))))
 
 returns-3 : tie.Need-returns-3 Inv-loop μ-loop
 returns-3 c = ends (c .before .loop .inv) (c .loop-test .left)

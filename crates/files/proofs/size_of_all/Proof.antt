@@ -19,6 +19,7 @@ record Summing (ns : List ℕ) (size i : ℕ) : Type 0 where
   same : size ≡ length (encodeAll (take i ns))
 
 module _ {ns : List ℕ} {size i : ℕ} (k : Summing ns size i) where
+  -- one number more
   turn : i < length ns → (n : ℕ) → n ≡ length (encode (getD ns i 0)) → Summing ns (size + n) (i + 1)
   turn h n e =
       record {
@@ -27,6 +28,7 @@ module _ {ns : List ℕ} {size i : ℕ} (k : Summing ns size i) where
         same = rw (each-through encode ns i 0 h, length-append) (omega (arith, k .same));
       }
 
+  -- after the last
   ends : length ns ≤ i → size ≡ length (encodeAll ns)
   ends h = k .same ∙ rw (take-all i ns h)
 

@@ -38,7 +38,10 @@ refused-requires : tie.Need-refused-requires
 refused-requires c κs = search needs
 
 returns : tie.Need-returns
-returns c = rw (c .refused .ensures) (refuses-fault _ _ _ _ _ (c .before .before .before .fault-of .ensures) (c .before .before .code-of .ensures) (c .before .if1 .taken))
+returns c =
+    let c2 = c .before .before in
+    let c3 = c2 .before in
+    rw (c .refused .ensures) (refuses-fault _ _ _ _ _ (c3 .fault-of .ensures) (c2 .code-of .ensures) (c .before .if1 .taken))
 
 slice-aggregate-file-numbers : tie.Need-slice-aggregate-file-numbers
 slice-aggregate-file-numbers c = search needs

@@ -97,7 +97,8 @@ cast-b c = omega (arith, c .shared-slice-known .given (c .before .before .before
 add-p : tie.Need-add-p Inv-loop μ-loop
 add-p c = search needs
 
-low : (c : tie.Then2 Inv-loop μ-loop) → let l = c .before .before .before .before in getD (l .before .args .bytes .now) (l .loop .p) 0 - 128 < 128
+low : (c : tie.Then2 Inv-loop μ-loop) → let l = c .before .before .before .before in
+    getD (l .before .args .bytes .now) (l .loop .p) 0 - 128 < 128
 low c =
     let c4 = c .before .before .before .before in
     omega (arith, c .before .shared-slice-known .given (c4 .loop .p))

@@ -35,13 +35,17 @@ module _ (rule : Rule) (t : Table) (n i : ℕ) (l : Looking rule t n i) where
     tested h b e =
         rw (used-row (t .count) (t .rows) i (omega (arith, l .used)), used-row (t .count) (t .rows) j (omega (arith, l .used))) e
 
+    -- the next earlier row does not clash
     next-earlier : j < i → breaks rule (getD (t .rows) i zeroRow) (getD (t .rows) j zeroRow) ≡ false → Comparing rule t i (j + 1)
     next-earlier h e =
-        record { upto = omega arith; same = inner-next (breaks rule) (usedRows t) zeroRow i j (omega (arith, l .all)) h (tested h false e) (k .same) }
+        let used : i < length (usedRows t) = omega (arith, l .all) in
+        record { upto = omega arith; same = inner-next (breaks rule) (usedRows t) zeroRow i j used h (tested h false e) (k .same) }
 
+    -- an earlier row clashes
     here : j < i → breaks rule (getD (t .rows) i zeroRow) (getD (t .rows) j zeroRow) ≡ true → i ≡ clash (breaks rule) (usedRows t)
     here h e = found (breaks rule) (usedRows t) zeroRow i j (omega (arith, l .all)) h (tested h true e) (k .same) (l .same)
 
+    -- none of the earlier rows clashes
     next-row : i ≤ j → Looking rule t n (i + 1)
     next-row h = record {
       few = l .few;
@@ -51,6 +55,7 @@ module _ (rule : Rule) (t : Table) (n i : ℕ) (l : Looking rule t n i) where
       same = outer-next (breaks rule) (usedRows t) zeroRow i j (omega (arith, l .all)) h (k .same) (l .same);
     }
 
+  -- no row clashes
   nowhere : n ≤ i → i ≡ clash (breaks rule) (usedRows t)
   nowhere h = outer-past (breaks rule) (usedRows t) zeroRow i (omega (arith, l .all)) (l .same)
 

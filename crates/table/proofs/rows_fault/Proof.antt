@@ -30,24 +30,29 @@ module _ {t : Table} {used i : ℕ} (l : Looking t used i) where
     row : Row
     row = getD (t .rows) i zeroRow
 
+    -- the next row's fault, then those of the others
     step : rowsFault 0 0 (usedRows t) (t .times)
         ≡ rowFault i used row (drop used (t .times))
         orElse rowsFault (i + 1) (used + row .parts) (drop (i + 1) (usedRows t)) (drop (used + row .parts) (t .times))
     unfolding row
     step = l .same ∙ faults-more (usedRows t) row (t .times) i used (used-more (t .count) (t .rows) i h (l .few))
 
+    -- a fault is the first
     stops : (k ≡ 0 → ⊥) → v ≡ rowsFault 0 0 (usedRows t) (t .times)
     unfolding row
     stops f = fault-stays said code _ f ∙ sym step
 
+    -- a good row leaves the times within their 1,024
     fits : k ≡ 0 → used + getD (t .rows) i zeroRow .parts ≤ 1024
     unfolding rowFault
     fits e = head-found used i _ (first-good _ _ (sym (ap codeOf said) ∙ sym code ∙ e)) .room
 
+    -- one row more
     turn : k ≡ 0 → Looking t (used + getD (t .rows) i zeroRow .parts) (i + 1)
     unfolding row
     turn e = record { few = l .few; upto = omega arith; room = fits e; same = step ∙ sym (next-decides said code e refl) }
 
+  -- after the last there is none
   ends : t .count ≤ i → Good ≡ rowsFault 0 0 (usedRows t) (t .times)
   unfolding rowsFault
   ends h =

@@ -16,10 +16,12 @@ use Rattle.table.proofs.rule_broken.Statement.{statement}
 use Rattle.table.proofs.rule_broken.Tie as tie
 
 module _ (rule : Rule) (rows : List Row) {row n : ℕ} (first : row ≡ clash (breaks rule) rows) (all : length rows ≡ n) where
+  -- a row clashes
   hit : row < n → ruleVerdict rule row ≡ broken rule rows
   unfolding broken
   hit h = rw (← first, lt-ltb row (length rows) (omega arith))
 
+  -- none does
   none : n ≤ row → Good ≡ broken rule rows
   unfolding broken
   none h = rw (← first, le-ltb row (length rows) (omega arith))

@@ -4,7 +4,7 @@ use borrow.Author.Needs.{needs}
 use mathlib.Core.Path.{sym, ap, _∙_}
 use mathlib.Core.List.{List}
 use Rattle.table.specs.Fields.{Wanted, faultIn}
-use Rattle.table.proofs.Ranges.{length-same, ranges-same, wanted-same}
+use Rattle.table.proofs.FieldRanges.{length-same, ranges-same, wanted-same}
 use Rattle.table.proofs.times_fault.Statement.{statement}
 use Rattle.table.proofs.times_fault.Tie as tie
 
@@ -20,20 +20,14 @@ array-share-prefix-high c = search needs
 slice-aggregate-first-fault-2 : tie.Need-slice-aggregate-first-fault-2
 slice-aggregate-first-fault-2 c = sym (length-same 16777215 _ 64 (c .before .before .before .pre))
 
-array-share-prefix-left : tie.Need-array-share-prefix-left
-array-share-prefix-left c = search needs
-
-slice-aggregate-first-fault-3 : tie.Need-slice-aggregate-first-fault-3
-slice-aggregate-first-fault-3 c = sym (length-same 16777215 _ 64 (c .before .before .before .before .pre))
-
 first-fault-requires : tie.Need-first-fault-requires
-first-fault-requires c κs = ranges-same 1 16777215 16777215 _ 64 (c .before .before .before .before .pre)
+first-fault-requires c κs = ranges-same 1 16777215 _ 64 (c .before .before .before .pre)
 
 returns : tie.Need-returns
 returns c =
-    let c5 = c .before .before .before .before .before in
-    c .first-fault .ensures ∙ ap (λ (ws : List Wanted). faultIn ws (c5 .args .i) (now (c5 .args .times)))
-    (wanted-same 1 16777215 16777215 _ 64 (c5 .pre))
+    let c4 = c .before .before .before .before in
+    c .first-fault .ensures ∙ ap (λ (ws : List Wanted). faultIn ws (c4 .args .i) (now (c4 .args .times)))
+    (wanted-same 1 16777215 _ 64 (c4 .pre))
 
 pub times-fault-spec : {M : Type 1} → statement M
 times-fault-spec =
@@ -43,7 +37,5 @@ times-fault-spec =
     slice-aggregate-first-fault
     array-share-prefix-high
     slice-aggregate-first-fault-2
-    array-share-prefix-left
-    slice-aggregate-first-fault-3
     first-fault-requires
     returns)

@@ -17,7 +17,7 @@ use Rattle.table.proofs.Codes.{good-code}
 use Rattle.table.proofs.Fine.{Fine, good-fine, AllFine}
 use Rattle.table.proofs.Heads.{GoodHead, good-head}
 use Rattle.table.proofs.Seven.{seven}
-use Rattle.files.specs.Reading.{Step, stop, go, _then_, unless, asked, fieldAt, fieldsAt}
+use Rattle.fields.specs.Stepping.{Step, stop, go, _then_, unless, asked, fieldAt, fieldsAt}
 
 -- a step that went on did not stop
 pub stopped-not : {A B : Type 0} (x : Step A) {v : Verdict} {a : A} {n : ℕ} → x ≡ stop v → x ≡ go a n → B
@@ -29,6 +29,7 @@ pub record Passed {A : Type 0} (v : Verdict) (a : A) (m : ℕ) (b : A) (n : ℕ)
   pub same : a ≡ b
   pub place : m ≡ n
 
+-- so it was
 pub passed : {A : Type 0} (v : Verdict) (a : A) (m : ℕ) (b : A) (n : ℕ) → unless v a m ≡ go b n → Passed v a m b n
 unfolding unless
 passed v a m b n e =
@@ -43,6 +44,7 @@ pub record Then {A B : Type 0} (x : Step A) (f : A → ℕ → Step B) (b : B) (
   pub first : x ≡ go what place
   pub rest : f what place ≡ go b n
 
+-- both were read
 pub then-read : {A B : Type 0} (x : Step A) (f : A → ℕ → Step B) (b : B) (n : ℕ) → (x then f) ≡ go b n → Then x f b n
 unfolding _then_
 then-read (stop v) f b n e = stopped-not (stop v) refl e
@@ -63,6 +65,7 @@ pub record Read (w : Wanted) (s : List ℕ) (at v n : ℕ) : Type 0 where
   pub bytes : Bytes s → Between s at (encode v) n
   pub past : Bytes s → n ≡ at + length (encode v)
 
+-- so it is where a wanted number was read
 pub field-read : (w : Wanted) (s : List ℕ) (at v n : ℕ) → fieldAt w s at ≡ go v n → Read w s at v n
 unfolding fieldAt asked
 field-read w s at v n e = by (numberAt s at) refl
@@ -89,16 +92,24 @@ pub record Taken (ws : List Wanted) (done s : List ℕ) (at : ℕ) (all : List �
   pub bytes : Bytes s → Between s at (encodeAll numbers) n
   pub past : Bytes s → n ≡ at + length (encodeAll numbers)
 
+-- so it is where wanted numbers were read
 pub taken : (ws : List Wanted) (done s : List ℕ) (at : ℕ) (all : List ℕ) (n : ℕ) → fieldsAt ws done s at ≡ go all n
     → Taken ws done s at all n
 unfolding fieldsAt AllFine each
 taken [] done s at all n e =
     let same : done ≡ all = cc in
     let here : at ≡ n = cc in
-    record { numbers = []; whole = sym same ∙ sym (append-nil done); fine = tt; bytes = λ bs. ap (λ (k : ℕ). drop k s) here; past = λ bs. omega arith }
+    record {
+      numbers = [];
+      whole = sym same ∙ sym (append-nil done);
+      fine = tt;
+      bytes = λ bs. ap (λ (k : ℕ). drop k s) here;
+      past = λ bs. omega arith;
+    }
 taken (w ∷ ws) done s at all n e =
     let r = then-read (fieldAt w s at) (λ v m. fieldsAt ws (done ++ (v ∷ [])) s m) all n e in
-    more (r .what) (r .place) (field-read w s at (r .what) (r .place) (r .first)) (taken ws (done ++ (r .what ∷ [])) s (r .place) all n (r .rest))
+    more (r .what) (r .place) (field-read w s at (r .what) (r .place) (r .first))
+    (taken ws (done ++ (r .what ∷ [])) s (r .place) all n (r .rest))
   where
     more : (v m : ℕ) → Read w s at v m → Taken ws (done ++ (v ∷ [])) s m all n → Taken (w ∷ ws) done s at all n
     more v m f l = record {
@@ -115,6 +126,7 @@ pub record TakenAll (ws : List Wanted) (s : List ℕ) (at : ℕ) (all : List ℕ
   pub bytes : Bytes s → Between s at (encodeAll all) n
   pub past : Bytes s → n ≡ at + length (encodeAll all)
 
+-- so it is where nothing was done before
 pub taken-all : (ws : List Wanted) (s : List ℕ) (at : ℕ) (all : List ℕ) (n : ℕ) → fieldsAt ws [] s at ≡ go all n → TakenAll ws s at all n
 taken-all ws s at all n e = let r = taken ws [] s at all n e in rw (r .whole) record { fine = r .fine; bytes = r .bytes; past = r .past }
 

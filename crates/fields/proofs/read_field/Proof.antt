@@ -1,4 +1,4 @@
--- `files::read_field` meets its contract: each return is one case of `asked`. Assumes nothing.
+-- `fields::read_field` meets its contract: each return is one case of `asked`. Assumes nothing.
 use Prim.Native.Nat.{ℕ}
 use denote.Ref.{now}
 use borrow.Author.Needs.{needs}
@@ -7,11 +7,11 @@ use mathlib.Core.List.{List}
 use Rattle.numbers.specs.Numbers.{numberAt}
 use Rattle.numbers.specs.declared.Number.{Number}
 use Rattle.table.specs.Fields.{Wanted}
-use Rattle.files.specs.Reading.{asked, fieldAt}
-use Rattle.files.specs.Promises.{asField}
-use Rattle.files.proofs.Steps.{unless-fault, unless-good}
-use Rattle.files.proofs.read_field.Statement.{statement}
-use Rattle.files.proofs.read_field.Tie as tie
+use Rattle.fields.specs.Stepping.{asked, fieldAt}
+use Rattle.fields.specs.Promises.{asField}
+use Rattle.fields.proofs.Steps.{unless-fault, unless-good}
+use Rattle.fields.proofs.read_field.Statement.{statement}
+use Rattle.fields.proofs.read_field.Tie as tie
 
 -- what the number is, put into the definition
 read : (w : Wanted) (s : List ℕ) (at : ℕ) (x : Number) → x ≡ numberAt s at → asked w s at x ≡ fieldAt w s at

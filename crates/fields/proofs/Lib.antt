@@ -1,0 +1,7 @@
+pub mod Steps
+pub mod Taken
+pub mod Into
+pub mod Sizes
+pub mod Stops
+pub mod Near
+pub mod Here

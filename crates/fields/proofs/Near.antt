@@ -1,0 +1,90 @@
+-- The number that a refused number carries is at most the file's length and 64: an offset or the length. Assumes nothing.
+use Prim.Native.Nat.{ℕ, _+_, _≤_}
+use native.Mathlib.Omega.{arith}
+use mathlib.Core.Path.{_≡_, refl, ap, _∙_}
+use mathlib.Core.Bool.{Bool, true, false, _||_}
+use mathlib.Core.List.{List, [], _∷_, _++_}
+use lib.ListN.{length, drop, length-append, length-drop}
+use lib.Dec.{ltb}
+use Rattle.lists.specs.Lists.{pick}
+use Rattle.lists.proofs.Tests.{by-test}
+use Rattle.numbers.specs.Numbers.{Bytes, encode, numberAt}
+use Rattle.numbers.specs.declared.Number.{Number}
+use Rattle.numbers.specs.declared.Number.the-variants as N
+use Rattle.numbers.proofs.Laws.{encode-some}
+use Rattle.numbers.proofs.RoundTrip.{stands}
+use Rattle.table.specs.declared.Verdict.{Verdict}
+use Rattle.table.specs.declared.Verdict.the-variants.{Good, OutOfRange, TooManyTimes}
+use Rattle.table.specs.Verdicts.{numberOf, good}
+use Rattle.table.specs.Fields.{Wanted, judge}
+use Rattle.table.proofs.Codes.{good-code}
+use Rattle.table.proofs.Fine.{good-fine}
+use Rattle.fields.specs.Stepping.{Step, stop, go, _then_, unless, asked, fieldAt, fieldsAt}
+
+-- a number's own fault carries its place
+judge-small : (w : Wanted) (at n : ℕ) → numberOf (judge w at n) ≤ at
+unfolding judge
+judge-small w at n = of-tests (ltb n (w .low) || ltb (w .high) n) (ltb (w .left) n)
+  where
+    of-tests : (a b : Bool) → numberOf (pick a (OutOfRange at) (pick b (TooManyTimes at) Good)) ≤ at
+    of-tests true b = omega arith
+    of-tests false true = omega arith
+    of-tests false false = omega arith
+
+-- a step that, if it stops, carries a small number, and else goes on within the file s with what P says
+unfoldable pub Near : {A : Type 0} → List ℕ → (A → Type 0) → Step A → Type 0
+Near s P (stop v) = numberOf v ≤ length s + 64
+Near s P (go a n) = (n ≤ length s) × P a
+
+-- nothing is said of what was read
+abbrev pub Any : {A : Type 0} → A → Type 0
+Any a = Unit {0}
+
+module _ (s : List ℕ) where
+  -- going on
+  pub go-near : {A : Type 0} (P : A → Type 0) (a : A) (n : ℕ) → n ≤ length s → P a → Near s P (go a n)
+  unfolding Near
+  go-near P a n h p = (h, p)
+
+  -- first one thing, then another
+  pub then-near : {A B : Type 0} (P : A → Type 0) (Q : B → Type 0) (x : Step A) (f : A → ℕ → Step B) → Near s P x
+      → ((a : A) (n : ℕ) → n ≤ length s → P a → Near s Q (f a n)) → Near s Q (x then f)
+  unfolding _then_ Near
+  then-near P Q (stop v) f h g = h
+  then-near P Q (go a n) f h g = g a n (h .0) (h .1)
+
+  -- unless the verdict is good
+  pub unless-near : {A : Type 0} (P : A → Type 0) (v : Verdict) (a : A) (n : ℕ) → numberOf v ≤ length s + 64 → n ≤ length s
+      → (good v ≡ true → P a) → Near s P (unless v a n)
+  unfolding unless Near
+  unless-near P v a n h k p = by-test (good v) (λ e. rw e (k, p e)) (λ e. rw e h)
+
+module _ (s : List ℕ) (bs : Bytes s) where
+  -- a number ends within the file
+  ends-within : (at v n : ℕ) → numberAt s at ≡ N.Got v n → at ≤ length s → n ≤ length s
+  ends-within at v n e h =
+      let here = stands s at v n bs e in
+      let cut : length (drop at s) ≡ length (encode v) + length (drop n s)
+      = ap length (here .bytes) ∙ length-append (encode v) (drop n s) in
+      omega (arith, cut, length-drop at s, length-drop n s, here .past, encode-some v)
+
+  -- and is at most its largest
+  asked-near : (w : Wanted) (at : ℕ) → at ≤ length s → (x : Number) → numberAt s at ≡ x → Near s (λ v. v ≤ w .high) (asked w s at x)
+  unfolding asked Near
+  asked-near w at h (N.Got v n) e =
+      unless-near s (λ u. u ≤ w .high) (judge w at v) v n (omega (arith, judge-small w at v)) (ends-within at v n e h)
+      (λ g. good-fine w at v (good-code (judge w at v) g) .most)
+  asked-near w at h N.EndsEarly e = omega arith
+  asked-near w at h N.Malformed e = omega arith
+
+  -- so a number that is wanted at a place
+  pub field-near : (w : Wanted) (at : ℕ) → at ≤ length s → Near s (λ v. v ≤ w .high) (fieldAt w s at)
+  unfolding fieldAt
+  field-near w at h = asked-near w at h (numberAt s at) refl
+
+  -- numbers one after another
+  pub fields-near : (ws : List Wanted) (done : List ℕ) (at : ℕ) → at ≤ length s → Near s Any (fieldsAt ws done s at)
+  unfolding fieldsAt
+  fields-near [] done at h = go-near s Any done at h tt
+  fields-near (w ∷ ws) done at h =
+      then-near s (λ v. v ≤ w .high) Any (fieldAt w s at) _ (field-near w at h) (λ v n k p. fields-near ws (done ++ (v ∷ [])) n k)
