@@ -19,7 +19,8 @@ use Rattle.table.proofs.ReadingCodes.{fault-reading}
 use Rattle.table.proofs.Stored.{tasks-stored}
 use Rattle.table.proofs.GoodTasks.{stored-good}
 use Rattle.files.specs.declared.Loaded.{Loaded}
-use Rattle.files.specs.Reading.{Step, stop, go, decode, loaded, readAnswer}
+use Rattle.fields.specs.Stepping.{Step, stop, go}
+use Rattle.files.specs.Reading.{decode, loaded, readAnswer}
 use Rattle.files.proofs.Stops.{stop-fault}
 use Rattle.files.proofs.Back.{file-back}
 use Rattle.cores.specs.declared.Core.{Core}

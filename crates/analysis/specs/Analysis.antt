@@ -14,7 +14,8 @@ use Rattle.table.specs.declared.Verdict.the-variants.{Good, NoSuchCore, NoRoom,
 use Rattle.table.specs.Verdicts.{codeOf, _orElse_}
 use Rattle.table.specs.Memory.{tasksOf}
 use Rattle.table.specs.Faults.{faultOf}
-use Rattle.files.specs.Reading.{Step, stop, go, decode}
+use Rattle.fields.specs.Stepping.{Step, stop, go}
+use Rattle.files.specs.Reading.{decode}
 use Rattle.analysis.specs.declared.Analysed.{Analysed}
 
 -- room needed is the number of parts on the core

@@ -14,7 +14,8 @@ use Rattle.table.specs.Verdicts.{codeOf, good}
 use Rattle.table.specs.Fields.{Wanted}
 use Rattle.table.specs.Memory.{rowOf}
 use Rattle.table.proofs.Codes.{is-fault}
-use Rattle.files.specs.Reading.{stop, go, _then_, unless, rowsAt, endAt, decode}
+use Rattle.fields.specs.Stepping.{stop, go, _then_, unless}
+use Rattle.files.specs.Reading.{rowsAt, endAt, decode}
 use Rattle.files.proofs.Taken.{stopped-not}
 use Rattle.demands.specs.Reached.{Rows, Wants}
 use Rattle.demands.specs.Rules.{NumberRule, ClashRule, FileRule, Whole, GoodFile}

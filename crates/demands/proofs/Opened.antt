@@ -9,6 +9,7 @@ use Rattle.table.specs.Verdicts.{good, _orElse_}
 use Rattle.table.specs.Fields.{head, judge}
 use Rattle.table.specs.Memory.{allTimes}
 use Rattle.table.specs.Clash as clash
+use Rattle.fields.specs.Stepping as stepping
 use Rattle.files.specs.Reading as reading
 use Rattle.analysis.specs.Analysis as analysis
 use Rattle.sheet.specs.Text.{decimalIn, decimal, line, each}
@@ -16,7 +17,7 @@ use Rattle.sheet.specs.Sheet as sheet
 
 -- numbers one after another
 numbers : ℕ
-unfolding groups numberAt good judge reading._then_ reading.unless reading.asked reading.fieldAt reading.fieldsAt
+unfolding groups numberAt good judge stepping._then_ stepping.unless stepping.asked stepping.fieldAt stepping.fieldsAt
 numbers = 0
 
 -- the rules over the table

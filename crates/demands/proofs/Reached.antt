@@ -9,7 +9,8 @@ use Rattle.table.specs.declared.Verdict.{Verdict}
 use Rattle.table.specs.Verdicts.{good}
 use Rattle.table.specs.Fields.{Wanted, field}
 use Rattle.table.proofs.Fine.{Fine, fine-good}
-use Rattle.files.specs.Reading.{Step, stop, go, _then_, unless, asked, fieldAt, fieldsAt, rowAt, rowsAt, endAt, decode}
+use Rattle.fields.specs.Stepping.{Step, stop, go, _then_, unless, asked, fieldAt, fieldsAt}
+use Rattle.files.specs.Reading.{rowAt, rowsAt, endAt, decode}
 use Rattle.files.proofs.Taken.{field-read}
 use Rattle.demands.specs.Reached.{Stands, Along, Rows, Wants, itsFields, itsTimes}
 

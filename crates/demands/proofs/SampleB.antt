@@ -9,7 +9,8 @@ use Rattle.model.specs.Bounds.{limit, window, coreVerdict, noWindow}
 use Rattle.model.proofs.Least.{least-never}
 use Rattle.model.proofs.Rounding.{before-pos, before-covers}
 use Rattle.table.specs.declared.Verdict.the-variants as C
-use Rattle.files.specs.Reading.{stop, go, decode}
+use Rattle.fields.specs.Stepping.{stop, go}
+use Rattle.files.specs.Reading.{decode}
 use Rattle.analysis.specs.Analysis.{Analyses}
 use Rattle.sheet.specs.Sheet.{coreText, goodText, textOf, sheetText}
 use Rattle.demands.specs.SampleB.{task41, task43, tasksB, bytesB, text0, text1, text2, text3, reportB, refusedLine, SampleB}

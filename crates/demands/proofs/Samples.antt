@@ -4,7 +4,8 @@ use mathlib.Core.List.{[], _∷_}
 use Rattle.model.specs.Samples.{setA}
 use Rattle.model.proofs.Samples as Model
 use Rattle.table.specs.declared.Verdict.the-variants as C
-use Rattle.files.specs.Reading.{go, decode}
+use Rattle.fields.specs.Stepping.{go}
+use Rattle.files.specs.Reading.{decode}
 use Rattle.analysis.specs.Analysis.{Analyses}
 use Rattle.demands.specs.Samples.{bytesA, Samples}
 use Rattle.demands.proofs.Opened.{bytes-read, core-said, answer-given}

@@ -8,7 +8,8 @@ use Rattle.lists.specs.Lists.{total, Place}
 use Rattle.numbers.specs.Numbers.{Bytes}
 use Rattle.model.specs.Task.{Task, parts}
 use Rattle.model.specs.Rows.{GoodTask}
-use Rattle.files.specs.Reading.{go, decode}
+use Rattle.fields.specs.Stepping.{go}
+use Rattle.files.specs.Reading.{decode}
 use Rattle.demands.specs.Rules.{GoodFile}
 
 -- two rows that may not both stand in a table

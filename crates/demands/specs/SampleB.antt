@@ -5,7 +5,8 @@ use mathlib.Core.Path.{_≡_}
 use mathlib.Core.List.{List, [], _∷_, _++_}
 use Rattle.model.specs.Task.{Task}
 use Rattle.table.specs.declared.Verdict.the-variants as C
-use Rattle.files.specs.Reading.{stop, go, decode}
+use Rattle.fields.specs.Stepping.{stop, go}
+use Rattle.files.specs.Reading.{decode}
 use Rattle.analysis.specs.Analysis.{Analyses}
 use Rattle.sheet.specs.Sheet.{sheetText}
 

@@ -7,7 +7,8 @@ use Rattle.numbers.specs.declared.Number.the-variants as N
 use Rattle.model.specs.Samples.{setA, one, full}
 use Rattle.model.specs.Samples as Model
 use Rattle.table.specs.declared.Verdict.the-variants as C
-use Rattle.files.specs.Reading.{stop, go, decode}
+use Rattle.fields.specs.Stepping.{stop, go}
+use Rattle.files.specs.Reading.{decode}
 use Rattle.analysis.specs.Analysis.{coreSaid, Analyses}
 
 -- Set A as a file, with task 3's deadline at d

@@ -22,7 +22,8 @@ use Rattle.table.proofs.Stored.{tasks-stored}
 use Rattle.table.proofs.GoodTasks.{GoodTasks, times-fit, stored-good}
 use Rattle.table.proofs.EachGood.{each-good}
 use Rattle.files.specs.declared.Loaded.{Loaded}
-use Rattle.files.specs.Reading.{Step, stop, go, decode, loaded, readAnswer}
+use Rattle.fields.specs.Stepping.{Step, stop, go}
+use Rattle.files.specs.Reading.{decode, loaded, readAnswer}
 use Rattle.files.proofs.Enough.{enough-to-judge}
 use Rattle.files.proofs.Back.{file-back}
 use Rattle.files.proofs.Carried.{carried}

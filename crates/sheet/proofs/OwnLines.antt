@@ -19,7 +19,8 @@ use Rattle.model.specs.Task.{Task, parts}
 use Rattle.model.specs.Bounds.{onCore}
 use Rattle.table.specs.declared.Verdict.{Verdict}
 use Rattle.table.specs.Verdicts.{codeOf, numberOf}
-use Rattle.files.specs.Reading.{go, decode}
+use Rattle.fields.specs.Stepping.{go}
+use Rattle.files.specs.Reading.{decode}
 use Rattle.analysis.specs.Analysis.{needed}
 use Rattle.text.specs.Text.{linesIn}
 use Rattle.text.proofs.WholeLines.{decimal-plain, decimals-plain}

@@ -11,6 +11,7 @@ use Rattle.table.specs.Verdicts.{good, _orElse_}
 use Rattle.table.specs.Fields.{head, judge}
 use Rattle.table.specs.Memory.{allTimes}
 use Rattle.table.specs.Clash as clash
+use Rattle.fields.specs.Stepping as stepping
 use Rattle.files.specs.Reading as reading
 use Rattle.analysis.specs.Analysis.{needed, named, roomSaid, coreSaid}
 use Rattle.text.specs.Text.{decimalIn, decimal, line}
@@ -19,7 +20,7 @@ use Rattle.sheet.specs.SetA.{fileA, reportA, SetAReport}
 
 -- what computes in reading: an answer that says `unfolding numbersRead` opens a number, `unfolding rowsRead` a table
 numbersRead : ℕ
-unfolding groups numberAt good judge reading._then_ reading.unless reading.asked reading.fieldAt reading.fieldsAt
+unfolding groups numberAt good judge stepping._then_ stepping.unless stepping.asked stepping.fieldAt stepping.fieldsAt
 numbersRead = 0
 
 -- the rules over the table
@@ -63,7 +64,7 @@ unfolding lines needed named roomSaid coreSaid sheet.rowLines sheet.coreTextOf s
 texts = 0
 
 -- the file is Set A
-read : reading.decode fileA ≡ reading.go (setA 20) 27
+read : reading.decode fileA ≡ stepping.go (setA 20) 27
 unfolding rowsRead
 read = refl
 

@@ -11,7 +11,8 @@ use Rattle.model.specs.Bounds.{onCore, bound}
 use Rattle.table.specs.declared.Verdict.{Verdict}
 use Rattle.table.specs.declared.Verdict.the-variants.{Good}
 use Rattle.table.specs.Verdicts.{codeOf}
-use Rattle.files.specs.Reading.{stop, go, decode}
+use Rattle.fields.specs.Stepping.{stop, go}
+use Rattle.files.specs.Reading.{decode}
 use Rattle.analysis.specs.Analysis.{needed}
 use Rattle.table.specs.declared.Written.{Written}
 use Rattle.text.specs.Text.{linesIn}

@@ -10,7 +10,8 @@ use Rattle.table.specs.declared.Verdict.the-variants.{Good}
 use Rattle.table.specs.declared.Written.{Written}
 use Rattle.table.specs.Verdicts.{codeOf, numberOf}
 use Rattle.table.specs.Written.{Writes}
-use Rattle.files.specs.Reading.{Step, stop, go, decode}
+use Rattle.fields.specs.Stepping.{Step, stop, go}
+use Rattle.files.specs.Reading.{decode}
 use Rattle.analysis.specs.Analysis.{needed, coreSaid}
 use Rattle.text.specs.Text.{decimal, line}
 
