@@ -12,15 +12,15 @@ use Rattle.lists.proofs.Overs.{over-length, over-more}
 module _ {A : Type 0} (new old more l : List A) (p : ℕ) (so-far : l ≡ over new old) (place : p ≡ length new)
     (room : p + length more ≤ length old) where
   -- the length is still that of the old
-  pub behind-long : length l ≡ length old
-  behind-long = ap length so-far ∙ over-length new old (omega arith)
+  pub new-long : length l ≡ length old
+  new-long = ap length so-far ∙ over-length new old (omega arith)
 
   -- with more stored at the front of the part, all of it is new
-  pub behind : (part : List A) → part ≡ sets (take (length l - p) (drop p l)) 0 more
+  pub new-behind : (part : List A) → part ≡ sets (take (length l - p) (drop p l)) 0 more
       → take p l ++ (part ++ drop (length l - p) (drop p l)) ≡ over (new ++ more) old
-  behind part e =
+  new-behind part e =
       let put : take p l ++ (part ++ drop (length l - p) (drop p l)) ≡ sets l p more
-      = rw e (sets-from l p more (omega (arith, behind-long))) in
+      = rw e (sets-from l p more (omega (arith, new-long))) in
       put ∙ rw (so-far, place) (over-more new old more (omega arith))
 
 -- new that is as long as the old takes its place

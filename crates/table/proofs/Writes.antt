@@ -57,42 +57,42 @@ module _ (fault : Verdict) (new out : List ℕ) where
 
   module _ (r : Written) (out′ : List ℕ) (w : Writes fault new out r out′) where
     -- the verdict
-    pub said : verdictOn fault new (length out) ≡ r .verdict
+    pub verdict-said : verdictOn fault new (length out) ≡ r .verdict
     unfolding answerOn
-    said = sym (ap (λ (x : Written). x .verdict) (w .answer))
+    verdict-said = sym (ap (λ (x : Written). x .verdict) (w .answer))
 
     -- a good writing: nothing stood against it
     pub wrote-fine : r .verdict ≡ Good → codeOf fault ≡ 0
     unfolding verdictOn
-    wrote-fine e = first-good fault _ (ap codeOf (said ∙ e))
+    wrote-fine e = first-good fault _ (ap codeOf (verdict-said ∙ e))
 
     -- all bytes were counted
     pub wrote-count : r .verdict ≡ Good → r .count ≡ length new
     unfolding answerOn good
-    wrote-count e = ap (λ (x : Written). x .count) (w .answer) ∙ rw (said ∙ e)
+    wrote-count e = ap (λ (x : Written). x .count) (w .answer) ∙ rw (verdict-said ∙ e)
 
     -- and written
     pub wrote-bytes : r .verdict ≡ Good → out′ ≡ over new out
     unfolding bytesLeft good
-    wrote-bytes e = w .bytes ∙ rw (said ∙ e)
+    wrote-bytes e = w .bytes ∙ rw (verdict-said ∙ e)
 
     -- within the room
     pub wrote-fits : r .verdict ≡ Good → length new ≤ length out
     wrote-fits e =
         by-test (ltb (length out) (length new))
-        (λ t. absurd (let none : NoRoom (length new) ≡ Good = rw t at (sym (by-room (wrote-fine e) (length out)) ∙ said ∙ e) in
+        (λ t. absurd (let none : NoRoom (length new) ≡ Good = rw t at (sym (by-room (wrote-fine e) (length out)) ∙ verdict-said ∙ e) in
         let z : _≡_ {A = ℕ} 0 1 = cc in omega arith))
         (λ f. ltb-false (length out) (length new) f)
 
     -- a refused writing: no byte is counted
     pub none-count : good (r .verdict) ≡ false → r .count ≡ 0
     unfolding answerOn
-    none-count f = ap (λ (x : Written). x .count) (w .answer) ∙ rw (said, f)
+    none-count f = ap (λ (x : Written). x .count) (w .answer) ∙ rw (verdict-said, f)
 
     -- and none is changed
     pub none-bytes : good (r .verdict) ≡ false → out′ ≡ out
     unfolding bytesLeft
-    none-bytes f = w .bytes ∙ rw (said, f)
+    none-bytes f = w .bytes ∙ rw (verdict-said, f)
 
     -- ---- nothing else is allowed
 

@@ -8,7 +8,7 @@ use lib.ListN.{length, getD, take, drop, set, length-set, length-append, length-
 use lib.Seq.{sets, drop-set-lt}
 use Rattle.lists.specs.Lists.{each, over}
 use Rattle.lists.proofs.Overs.{over-none, over-length, over-one}
-use Rattle.lists.proofs.OverParts.{behind}
+use Rattle.lists.proofs.OverParts.{new-behind}
 use Rattle.model.specs.Task.{Task}
 use Rattle.table.specs.declared.Row.{Row}
 use Rattle.table.specs.declared.Table.{Table}
@@ -92,7 +92,7 @@ module _ {t : Table} {out₀ out : List ℕ} {p used i : ℕ} (l : Listing t out
           short = l .short;
           size = l .size;
           place = rw length-append (omega (arith, l .place, count));
-          put = behind (l .new) out₀ (rowNumbers (n .task)) out p (l .put) (l .place) fit part (rw numbers at e);
+          put = new-behind (l .new) out₀ (rowNumbers (n .task)) out p (l .put) (l .place) fit part (rw numbers at e);
         }
 
 -- what is new in front of a list, or in front of one that begins so already

@@ -9,7 +9,7 @@ use lib.Seq.{take-all}
 use Rattle.lists.specs.Lists.{each, over}
 use Rattle.lists.proofs.EachPart.{each-through, each-within}
 use Rattle.lists.proofs.Overs.{over-none, over-length}
-use Rattle.lists.proofs.OverParts.{behind}
+use Rattle.lists.proofs.OverParts.{new-behind}
 use Rattle.numbers.specs.Numbers.{encode, encodeAll, Put}
 use Rattle.files.proofs.put_all.Statement.{statement}
 use Rattle.files.proofs.put_all.Tie as tie
@@ -49,7 +49,7 @@ module _ {out₀ ns out : List ℕ} {p i : ℕ} (k : Putting out₀ ns out p i) 
       upto = omega arith;
       place = next;
       put =
-          behind (encodeAll (take i ns)) out₀ (encode (getD ns i 0)) out p (k .put) (k .place) (omega (arith, fits-here, put .size)) part
+          new-behind (encodeAll (take i ns)) out₀ (encode (getD ns i 0)) out p (k .put) (k .place) (omega (arith, fits-here, put .size)) part
           (put .bytes)
           ∙ rw more;
     }

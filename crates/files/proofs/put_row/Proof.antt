@@ -7,7 +7,7 @@ use mathlib.Core.List.{List, _++_}
 use lib.ListN.{length, take, drop, length-append}
 use lib.Seq.{sets}
 use Rattle.lists.proofs.Overs.{over-sets}
-use Rattle.lists.proofs.OverParts.{behind}
+use Rattle.lists.proofs.OverParts.{new-behind}
 use Rattle.table.specs.declared.Row.{Row}
 use Rattle.table.specs.Fields.{fieldsOf}
 use Rattle.files.proofs.put_row.Statement.{statement}
@@ -19,7 +19,7 @@ both-put : (row : Row) (fields times out first part : List ℕ) → fields ≡ f
     → take 7 first ++ (part ++ drop (length first - 7) (drop 7 first)) ≡ sets out 0 (fieldsOf row ++ times)
 both-put row fields times out first part own room one two =
     let front = one ∙ ap (sets out 0) own ∙ over-sets (fieldsOf row) out (omega arith) in
-    behind (fieldsOf row) out times first 7 front (omega arith) room part two
+    new-behind (fieldsOf row) out times first 7 front (omega arith) room part two
     ∙ sym (over-sets (fieldsOf row ++ times) out (rw length-append room))
 
 fields-of-requires : tie.Need-fields-of-requires
