@@ -30,7 +30,7 @@ use Rattle.files.proofs.Carried.{carried}
 use Rattle.files.proofs.Stops.{stop-fault}
 use Rattle.sheet.specs.Sheet.{fileLine, goodText, textOf, sheetText, Prints}
 use Rattle.table.specs.declared.Written.{Written}
-use Rattle.table.proofs.Writes.{refuses-room, room-good, said, wrote-count, wrote-bytes, answers-agree}
+use Rattle.table.proofs.Writes.{refuses-room, room-good, verdict-said, wrote-count, wrote-bytes, answers-agree}
 use Rattle.sheet.specs.Claims.{TextIsShort, TextIsPrinted, SheetOfTheFront}
 use Rattle.sheet.proofs.Short.{code-short, file-line-short, good-short}
 
@@ -101,7 +101,7 @@ text-is-short s bs few = of-step (decode s) refl
 pub text-is-printed : TextIsPrinted
 text-is-printed s bs few out r out′ p h =
     let fits : length (sheetText s) ≤ length out = omega (arith, text-is-short s bs few) in
-    let fine : r .verdict ≡ Good = sym (said Good (sheetText s) out r out′ p) ∙ room-good Good (sheetText s) out refl fits in (
+    let fine : r .verdict ≡ Good = sym (verdict-said Good (sheetText s) out r out′ p) ∙ room-good Good (sheetText s) out refl fits in (
       fine,
       rw (wrote-count Good (sheetText s) out r out′ p fine, wrote-bytes Good (sheetText s) out r out′ p fine) (take-over (sheetText s) out),
     )
@@ -117,6 +117,6 @@ count-within s {out} {r} {out′} p = ⊎-elim none some (either (length out) (l
 
     some : length (sheetText s) ≤ length out → r .count ≤ length out′
     some h =
-        let fine : r .verdict ≡ Good = sym (said Good (sheetText s) out r out′ p) ∙ room-good Good (sheetText s) out refl h in
+        let fine : r .verdict ≡ Good = sym (verdict-said Good (sheetText s) out r out′ p) ∙ room-good Good (sheetText s) out refl h in
         let bytes = ap length (wrote-bytes Good (sheetText s) out r out′ p fine) ∙ over-length (sheetText s) out h in
         omega (arith, wrote-count Good (sheetText s) out r out′ p fine)
