@@ -1,3 +1,4 @@
+// The timing sheet of a table file: every byte that is printed.
 ghost use Prim.Native.Nat.{_+_, _<_, _≤_};
 ghost use mathlib.Core.Path.{_≡_};
 ghost use lib.ListN.{length};
