@@ -6,7 +6,7 @@ use Rattle.machine.proofs.NoRunIsLater.{no-run-is-later}
 use Rattle.files.proofs.Short.{good-file-is-short}
 use Rattle.files.proofs.Enough.{enough-to-judge}
 use Rattle.files.proofs.Unused.{unused-has-no-say}
-use Rattle.sheet.proofs.Decimals as decimals
+use Rattle.text.proofs.Decimals as decimals
 use Rattle.sheet.proofs.Files.{text-is-short, text-is-printed}
 use Rattle.sheet.proofs.OwnLines.{line-of-its-row}
 use Rattle.sheet.proofs.SetAReport.{set-a-report}

@@ -16,7 +16,7 @@ use Rattle.table.specs.Memory.{rowOf}
 use Rattle.table.proofs.Codes.{is-fault}
 use Rattle.fields.specs.Stepping.{stop, go, _then_, unless}
 use Rattle.files.specs.Reading.{rowsAt, endAt, decode}
-use Rattle.files.proofs.Taken.{stopped-not}
+use Rattle.fields.proofs.Taken.{stopped-not}
 use Rattle.demands.specs.Reached.{Rows, Wants}
 use Rattle.demands.specs.Rules.{NumberRule, ClashRule, FileRule, Whole, GoodFile}
 use Rattle.demands.proofs.Reached.{rows-read, wants-read, reached}

@@ -16,7 +16,7 @@ use Rattle.table.specs.declared.Verdict.the-variants as C
 use Rattle.table.specs.Verdicts.{codeOf, good}
 use Rattle.table.specs.Fields.{Wanted, judge}
 use Rattle.fields.specs.Stepping.{stop, unless, asked, fieldAt}
-use Rattle.files.proofs.Taken.{stopped-not}
+use Rattle.fields.proofs.Taken.{stopped-not}
 use Rattle.demands.specs.Rules.{NumberRule}
 use Rattle.demands.proofs.Bytes.{cut-off, ill-formed}
 use Rattle.demands.proofs.Reached.{stands-read}

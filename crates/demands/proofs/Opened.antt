@@ -12,7 +12,7 @@ use Rattle.table.specs.Clash as clash
 use Rattle.fields.specs.Stepping as stepping
 use Rattle.files.specs.Reading as reading
 use Rattle.analysis.specs.Analysis as analysis
-use Rattle.sheet.specs.Text.{decimalIn, decimal, line, each}
+use Rattle.text.specs.Text.{decimalIn, decimal, line, each}
 use Rattle.sheet.specs.Sheet as sheet
 
 -- numbers one after another

@@ -10,7 +10,7 @@ use Rattle.model.specs.Verdict.{AllWindows, Passes}
 use Rattle.table.specs.declared.Verdict.{Verdict}
 use Rattle.table.specs.Verdicts.{codeOf}
 use Rattle.files.specs.Reading.{decode}
-use Rattle.files.proofs.Taken.{stopped-not}
+use Rattle.fields.proofs.Taken.{stopped-not}
 use Rattle.analysis.specs.declared.Analysed.{Analysed}
 use Rattle.analysis.specs.Analysis.{Analyses}
 use Rattle.demands.specs.Rules.{GoodFile, CoreRule, AnalysisRule}

@@ -4,11 +4,11 @@ use borrow.Author.Tests.{lt-ltb, le-ltb}
 use mathlib.Core.Path.{refl, _∙_}
 use mathlib.Core.List.{List}
 use lib.ListN.{length}
-use Rattle.sheet.specs.declared.Printed.{Printed}
+use Rattle.table.specs.declared.Written.{Written}
 use Rattle.sheet.specs.Sheet.{sheetText, printAnswer, printed, Prints}
 use Rattle.demands.specs.Printing.{TooShort, InFull, Printing}
 
-module _ (s out : List ℕ) (r : Printed) (out′ : List ℕ) (p : Prints s out r out′) where
+module _ (s out : List ℕ) (r : Written) (out′ : List ℕ) (p : Prints s out r out′) where
   -- in too short a room
   too-short : length out < length (sheetText s) → TooShort (sheetText s) out r out′
   unfolding printAnswer printed

@@ -11,7 +11,7 @@ use Rattle.table.specs.Fields.{Wanted, field}
 use Rattle.table.proofs.Fine.{Fine, fine-good}
 use Rattle.fields.specs.Stepping.{Step, stop, go, _then_, unless, asked, fieldAt, fieldsAt}
 use Rattle.files.specs.Reading.{rowAt, rowsAt, endAt, decode}
-use Rattle.files.proofs.Taken.{field-read}
+use Rattle.fields.proofs.Taken.{field-read}
 use Rattle.demands.specs.Reached.{Stands, Along, Rows, Wants, itsFields, itsTimes}
 
 -- ---- from the words to the reader

@@ -20,7 +20,7 @@ use Rattle.table.specs.Faults.{faultOf}
 use Rattle.table.proofs.Codes.{is-good, is-fault, or-good}
 use Rattle.table.proofs.GoodTasks.{tasks-good}
 use Rattle.table.proofs.GoodCore.{good-core}
-use Rattle.files.specs.declared.Written.{Written}
+use Rattle.table.specs.declared.Written.{Written}
 use Rattle.files.specs.Writing.{fileOf, writeVerdict, writeAnswer, bytesAfter, Wrote}
 use Rattle.files.specs.RoundTrips.{InMemory}
 use Rattle.files.proofs.Trip.{file-here}

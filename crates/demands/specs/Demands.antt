@@ -7,7 +7,7 @@ use Rattle.model.specs.BegunSample.{BegunSample}
 use Rattle.machine.specs.NoRunIsLater.{NoRunIsLater}
 use Rattle.files.specs.RoundTrips.{GoodFileIsShort, UnusedHasNoSay}
 use Rattle.files.specs.Enough.{EnoughToJudge}
-use Rattle.sheet.specs.Text.{Decimal}
+use Rattle.text.specs.Text.{Decimal}
 use Rattle.sheet.specs.Claims.{TextIsShort, TextIsPrinted, LineOfItsRow}
 use Rattle.sheet.specs.SetA.{SetAReport}
 use Rattle.demands.specs.Demand1.{Demand1}

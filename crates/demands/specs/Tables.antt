@@ -13,7 +13,7 @@ use Rattle.table.specs.declared.Verdict.the-variants as C
 use Rattle.table.specs.Verdicts.{codeOf}
 use Rattle.table.specs.Fields.{Wanted, head, time, fieldsOf}
 use Rattle.table.specs.Memory.{usedRows, tasksOf}
-use Rattle.files.specs.declared.Written.{Written}
+use Rattle.table.specs.declared.Written.{Written}
 use Rattle.files.specs.Writing.{fileOf, Wrote}
 use Rattle.files.specs.RoundTrips.{InMemory}
 use Rattle.analysis.specs.declared.Analysed.{Analysed}

@@ -1,3 +1,4 @@
+// Table files: read one into a table in memory, and write a table in memory as one.
 ghost use mathlib.Core.Path.{_≡_};
 ghost use mathlib.Core.List.{List, [], _++_};
 ghost use Prim.Native.Nat.{_+_, _≤_};

@@ -1,1 +1,1 @@
-// No code: demand 3, about the machine and the bounds of crate model.
+// No code: no run of the one-core machine is later than the bounds (demand 3).

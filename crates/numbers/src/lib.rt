@@ -1,3 +1,4 @@
+// Numbers as a file has them, in groups of seven bits: read one, size one, put one.
 ghost use mathlib.Core.Path.{_≡_};
 ghost use lib.ListN.{length, set};
 ghost use Rattle.numbers.specs.Numbers.{numberAt, encode, Put};

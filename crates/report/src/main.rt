@@ -1,3 +1,4 @@
+// The report program: a table file in, its timing sheet out.
 use libc::STDIN_FILENO;
 use libc::STDOUT_FILENO;
 

@@ -1,4 +1,4 @@
-// Reads table files and writes them back: for each sample the code, its number, the rows, and the bytes that writing gives.
+// The samples program: reads table files and writes them back; for each the code, its number, the rows, and the bytes written.
 use libc::STDOUT_FILENO;
 
 // Prints a number and what follows it.

@@ -1,3 +1,4 @@
+// The task table in memory, the verdicts with their codes and numbers, and what can stand against a table: its own faults and clashes.
 ghost use mathlib.Core.Path.{_≡_};
 ghost use mathlib.Core.List.{[]};
 ghost use Prim.Native.Nat.{_≤_, min};
