@@ -1,22 +1,24 @@
 -- An analysis says and leaves what demand 1 asks for. From the rules of files and of cores.
-use Prim.Native.Nat.{ℕ, _+_, _≤_}
+use Prim.Native.Nat.{ℕ, _≤_}
 use native.Mathlib.Omega.{arith}
 use borrow.Author.Tests.{eq-eqb, ne-eqb}
 use mathlib.Core.Path.{_≡_, refl, sym, ap, subst, _∙_}
 use mathlib.Core.Logic.{_⊎_, inl, inr, ⊎-elim}
 use mathlib.Core.Bool.{true, false}
-use mathlib.Core.List.{List, [], _∷_, _++_}
-use lib.ListN.{length, drop, length-append, length-drop}
-use Rattle.lists.specs.Lists.{total}
-use Rattle.lists.proofs.Listed.{listed-length}
-use Rattle.model.specs.Task.{Task, parts}
-use Rattle.model.specs.Bounds.{onCore, rowBounds, bound}
+use mathlib.Core.List.{List, []}
+use lib.ListN.{length}
+use Rattle.lists.specs.Lists.{over}
+use Rattle.lists.proofs.Overs.{over-length}
+use Rattle.model.specs.Task.{Task}
+use Rattle.model.specs.Bounds.{onCore}
 use Rattle.table.specs.declared.Verdict.{Verdict}
 use Rattle.table.specs.Verdicts.{codeOf}
 use Rattle.table.specs.Memory.{stored}
 use Rattle.files.specs.Reading.{decode, readAnswer}
 use Rattle.analysis.specs.declared.Analysed.{Analysed}
-use Rattle.analysis.specs.Analysis.{needed, boundsOf, coreBounds, coreSaid, writes, answered, roomAfter, Gives, fileSaid, fileRows, Analyses}
+use Rattle.analysis.proofs.Given.{answered-verdict}
+use Rattle.analysis.proofs.BoundsPut.{bounds-length}
+use Rattle.analysis.specs.Analysis.{needed, coreBounds, coreSaid, writes, answered, roomAfter, Gives, fileSaid, fileRows, Analyses}
 use Rattle.demands.specs.Rules.{FileRule, GoodFile, AnalysisRule}
 use Rattle.demands.specs.Demand1.{Bounds, Says, Reads}
 use Rattle.demands.proofs.FileRule.{ReadingCode, reading-fault, good-read, by-rule, file-rule}
@@ -95,17 +97,10 @@ refused-not : (v : Verdict) → ReadingCode v → Writes v → ⊥
 refused-not v c (inl e) = omega (arith, c .0)
 refused-not v c (inr e) = omega (arith, c .1)
 
--- as many bounds as parts
-pub bounds-length : (rows ts : List Task) → length (boundsOf rows ts) ≡ needed ts
-unfolding needed total boundsOf rowBounds
-bounds-length rows [] = refl
-bounds-length rows (t ∷ ts) = rw (length-append, listed-length (bound rows t) (parts t)) (ap (_+_ (parts t)) (bounds-length rows ts))
-
 module _ (v : Verdict) (rows : List Task) (room : List ℕ) (r : Analysed) (room′ : List ℕ) (g : Gives v rows room r room′) where
   -- the verdict is what is said
   pub said : r .verdict ≡ v
-  unfolding answered
-  said = ap (λ (a : Analysed). a .verdict) (g .answer)
+  said = ap (λ (a : Analysed). a .verdict) (g .answer) ∙ answered-verdict v rows
 
   -- the room stays
   pub stays : writes v ≡ false → (room′ ≡ room) × (r .count ≡ 0)
@@ -114,13 +109,13 @@ module _ (v : Verdict) (rows : List Task) (room : List ℕ) (r : Analysed) (room
 
   -- the bounds are written
   bounds-written : writes v ≡ true → needed rows ≤ length room → Bounds rows room r room′
-  unfolding answered roomAfter
+  unfolding answered roomAfter coreBounds needed
   bounds-written t h =
-      let all : room′ ≡ coreBounds rows ++ drop (needed rows) room = g .left ∙ rw t in
+      let all : room′ ≡ over (coreBounds rows) room = g .left ∙ rw t in
       record {
         bounds = all;
         count = ap (λ (a : Analysed). a .count) (g .answer) ∙ rw t;
-        size = rw (all, length-append, bounds-length rows rows, length-drop) (omega arith);
+        size = ap length all ∙ over-length (coreBounds rows) room (omega (arith, bounds-length rows rows));
       }
 
 module _ (s : List ℕ) (core : ℕ) (room : List ℕ) (r : Analysed) (room′ : List ℕ) (a : Analyses s core room r room′) where

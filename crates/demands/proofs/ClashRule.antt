@@ -18,7 +18,7 @@ use Rattle.table.specs.declared.Rule.the-variants as R
 use Rattle.table.specs.declared.Verdict.{Verdict}
 use Rattle.table.specs.declared.Verdict.the-variants as C
 use Rattle.table.specs.Verdicts.{codeOf, good, _orElse_}
-use Rattle.table.specs.Clash.{coopAbove, breaks, clashAfter, clash, named, broken, clashOf}
+use Rattle.table.specs.Clash.{coopAbove, breaks, clashAfter, clash, ruleVerdict, broken, clashOf}
 use Rattle.demands.specs.Rules.{CooperativeAbove, Breaks, Clashes, First, None, ClashRule}
 
 -- ---- the tests are the words
@@ -178,7 +178,7 @@ module _ (rule : Rule) (rows : List Row) where
   is-none h i c = none-before i (omega (arith, place-below rows i (c .row) (c .here))) c
 
   -- the first one is named
-  first-named : (i : ℕ) → First rule rows i → broken rule rows ≡ named rule i
+  first-named : (i : ℕ) → First rule rows i → broken rule rows ≡ ruleVerdict rule i
   unfolding broken at
   first-named i f =
       let inside : i < length rows = place-below rows i (f .clashes .row) (f .clashes .here) in

@@ -69,7 +69,7 @@ module _ (s : List ℕ) (core : ℕ) (room : List ℕ) (r : Analysed) (room′ :
       let w = all-windows s core room r room′ a tasks g c row m in (
         bound rows row p,
         w .0,
-        rw (bounds-left s core room r room′ a tasks g c .bounds) (bound-placed rows rows (drop (needed rows) room) i row l p h),
+        rw (bounds-left s core room r room′ a tasks g c .bounds) (bound-placed rows room i row l p h),
         window-is rows row (w .0) .0 (w .1),
         bound-is rows (core-good core g) row m (w .0) (w .1) p h,
       )

@@ -19,7 +19,7 @@ demand3 s core room r room′ a e tasks g i row l p h =
     let m = place-in rows i row l in
     let w = core-passes s core room r room′ a tasks g e .windows row m in (
       bound rows row p,
-      rw (bounds-left s core room r room′ a tasks g (inl e) .bounds) (bound-placed rows rows (drop (needed rows) room) i row l p h),
+      rw (bounds-left s core room r room′ a tasks g (inl e) .bounds) (bound-placed rows room i row l p h),
       λ run allowed q t u released late.
           no-run-is-later rows (core-good core g) row m (w .0) (w .1) run allowed q p t u released h late,
     )

@@ -7,8 +7,9 @@ use Rattle.files.proofs.Short.{good-file-is-short}
 use Rattle.files.proofs.Enough.{enough-to-judge}
 use Rattle.files.proofs.Unused.{unused-has-no-say}
 use Rattle.text.proofs.Decimals as decimals
-use Rattle.sheet.proofs.Files.{text-is-short, text-is-printed}
-use Rattle.sheet.proofs.OwnLines.{line-of-its-row}
+use Rattle.text.proofs.WholeLines.{lines-are-the-text}
+use Rattle.sheet.proofs.Files.{text-is-short, text-is-printed, sheet-of-the-front}
+use Rattle.sheet.proofs.OwnLines.{line-of-its-row, line-of-its-core, no-other-line, line-of-a-refusal}
 use Rattle.sheet.proofs.SetAReport.{set-a-report}
 use Rattle.demands.specs.Demands.{FileClaims, SheetClaims, WorkedSamples, Demands}
 use Rattle.demands.proofs.Demand1.{demand1}
@@ -44,7 +45,12 @@ sheets =
       decimals = decimals.decimals;
       short = text-is-short;
       printed = text-is-printed;
-      lines = line-of-its-row;
+      front = sheet-of-the-front;
+      rowLines = line-of-its-row;
+      coreLines = line-of-its-core;
+      noOther = no-other-line;
+      refused = line-of-a-refusal;
+      cut = lines-are-the-text;
     }
 
 -- samples

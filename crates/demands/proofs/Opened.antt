@@ -1,18 +1,17 @@
 -- Names for definitions that samples compute: an answer that says `unfolding bytes-read` opens reading. Nothing is proved here.
 use Prim.Native.Nat.{ℕ}
-use Rattle.lists.specs.Lists.{any, keep, total, sum, largest, listed}
+use Rattle.lists.specs.Lists.{any, keep, each, over, total, sum, largest, listed}
 use Rattle.numbers.specs.Numbers.{groups, numberAt}
 use Rattle.model.specs.Task.{parts, part, partsBefore, cost}
 use Rattle.model.specs.Least.{least, scan, found, value, maxBelow}
 use Rattle.model.specs.Bounds as bounds
 use Rattle.table.specs.Verdicts.{good, _orElse_}
 use Rattle.table.specs.Fields.{head, judge}
-use Rattle.table.specs.Memory.{allTimes}
 use Rattle.table.specs.Clash as clash
 use Rattle.fields.specs.Stepping as stepping
 use Rattle.files.specs.Reading as reading
 use Rattle.analysis.specs.Analysis as analysis
-use Rattle.text.specs.Text.{decimalIn, decimal, line, each}
+use Rattle.text.specs.Text.{decimalIn, decimal, line}
 use Rattle.sheet.specs.Sheet as sheet
 
 -- numbers one after another
@@ -27,7 +26,7 @@ rules = 0
 
 -- reading a file
 unfoldable pub bytes-read : ℕ
-unfolding numbers rules head allTimes reading.rowAt reading.rowsAt reading.endAt reading.decode
+unfolding numbers rules head each reading.rowAt reading.rowsAt reading.endAt reading.decode
 bytes-read = 0
 
 -- sums over rows
@@ -67,7 +66,7 @@ core-said = 0
 
 -- the bounds of a core in order, once each is known
 bounds-listed : ℕ
-unfolding analysis.boundsOf bounds.rowBounds listed
+unfolding each over analysis.coreBounds bounds.rowBounds listed
 bounds-listed = 0
 
 -- the answer and the room
@@ -77,10 +76,10 @@ answer-given = 0
 
 -- lines of text
 unfoldable pub lines-made : ℕ
-unfolding decimalIn decimal line each sheet.header sheet.boundLine sheet.coreLine sheet.fileLine
+unfolding decimalIn decimal line each listed sheet.header sheet.boundLine sheet.coreLine sheet.fileLine
 lines-made = 0
 
 -- the text of a core, once its verdict and bounds are known
 unfoldable pub text-made : ℕ
-unfolding core-said lines-made sheet.rowLines sheet.linesOf sheet.coreTextOf sheet.coreText sheet.goodText
+unfolding core-said lines-made sheet.rowLines sheet.coreTextOf sheet.coreText sheet.goodText
 text-made = 0

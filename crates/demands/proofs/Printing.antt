@@ -1,27 +1,32 @@
 -- Printing answers and leaves what is said of it. Assumes nothing.
 use Prim.Native.Nat.{ℕ, _≤_, _<_}
-use borrow.Author.Tests.{lt-ltb, le-ltb}
-use mathlib.Core.Path.{refl, _∙_}
+use mathlib.Core.Path.{_≡_, refl, sym, ap, _∙_}
 use mathlib.Core.List.{List}
 use lib.ListN.{length}
+use Rattle.lists.specs.Lists.{over}
+use Rattle.table.specs.declared.Verdict.{Verdict}
+use Rattle.table.specs.declared.Verdict.the-variants.{Good, NoRoom}
 use Rattle.table.specs.declared.Written.{Written}
-use Rattle.sheet.specs.Sheet.{sheetText, printAnswer, printed, Prints}
+use Rattle.table.proofs.Writes.{refuses-room, writes-all, answers-agree, bytes-agree}
+use Rattle.sheet.specs.Sheet.{sheetText, Prints}
+use Rattle.demands.specs.Codes.{Carries}
 use Rattle.demands.specs.Printing.{TooShort, InFull, Printing}
 
 module _ (s out : List ℕ) (r : Written) (out′ : List ℕ) (p : Prints s out r out′) where
   -- in too short a room
   too-short : length out < length (sheetText s) → TooShort (sheetText s) out r out′
-  unfolding printAnswer printed
   too-short h =
-      let test = lt-ltb (length out) (length (sheetText s)) h in
-      (rw (p .answer, test) (refl, refl), rw (p .answer, test), p .bytes ∙ rw test)
+      let w = refuses-room Good (sheetText s) out refl _ refl h in
+      let answer = answers-agree Good (sheetText s) out r out′ p _ _ w in
+      (rw answer (refl, refl), ap (λ (x : Written). x .count) answer, bytes-agree Good (sheetText s) out r out′ p _ _ w)
 
   -- in enough
   in-full : length (sheetText s) ≤ length out → InFull (sheetText s) out r out′
-  unfolding printAnswer printed
+  unfolding over
   in-full h =
-      let test = le-ltb (length out) (length (sheetText s)) h in
-      (rw (p .answer, test) (refl, refl), rw (p .answer, test), p .bytes ∙ rw test)
+      let w = writes-all Good (sheetText s) out refl _ refl h _ refl in
+      let answer = answers-agree Good (sheetText s) out r out′ p _ _ w in
+      (rw answer (refl, refl), ap (λ (x : Written). x .count) answer, bytes-agree Good (sheetText s) out r out′ p _ _ w)
 
 -- both
 pub printing : Printing

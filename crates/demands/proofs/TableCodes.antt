@@ -21,7 +21,8 @@ use Rattle.table.proofs.Codes.{is-good, is-fault, or-good}
 use Rattle.table.proofs.GoodTasks.{tasks-good}
 use Rattle.table.proofs.GoodCore.{good-core}
 use Rattle.table.specs.declared.Written.{Written}
-use Rattle.files.specs.Writing.{fileOf, writeVerdict, writeAnswer, bytesAfter, Wrote}
+use Rattle.table.specs.Written.{verdictOn, answerOn, bytesLeft}
+use Rattle.files.specs.Writing.{fileOf, writeVerdict, Wrote}
 use Rattle.files.specs.RoundTrips.{InMemory}
 use Rattle.files.proofs.Trip.{file-here}
 use Rattle.analysis.specs.declared.Analysed.{Analysed}
@@ -59,7 +60,7 @@ fault-or-good t =
 module _ (t : Table) (room : ℕ) where
   -- what a rule says is said
   rule-write : {v : Verdict} → WriteRule t room v → writeVerdict t room ≡ v
-  unfolding writeVerdict
+  unfolding verdictOn
   rule-write (WriteRule.fault r n) = fault-said t _ r n
   rule-write (WriteRule.short r h) = next-said t _ r ∙ rw (lt-ltb room (length (fileOf t)) h)
   rule-write (WriteRule.good r h) = next-said t _ r ∙ rw (le-ltb room (length (fileOf t)) h)
@@ -104,17 +105,17 @@ module _ (t : Table) (m : InMemory t) (core room : ℕ) where
 module _ (t : Table) (out : List ℕ) (r : Written) (out′ : List ℕ) (w : Wrote t out r out′) where
   -- the verdict is what is said
   write-said : r .verdict ≡ writeVerdict t (length out)
-  unfolding writeAnswer
+  unfolding answerOn
   write-said = ap (λ (x : Written). x .verdict) (w .answer)
 
   -- how many bytes
   write-count : r .count ≡ pick (good (writeVerdict t (length out))) (length (fileOf t)) 0
-  unfolding writeAnswer
+  unfolding answerOn
   write-count = ap (λ (x : Written). x .count) (w .answer)
 
   -- what writing says and leaves
   write-says : WriteSays t out r out′
-  unfolding bytesAfter
+  unfolding bytesLeft
   write-says =
       let e = write-said in
       record {

@@ -4,8 +4,9 @@
 use Prim.Native.Nat.{ℕ}
 use mathlib.Core.Path.{_≡_}
 use mathlib.Core.Logic.{_⊎_, _↔_}
-use mathlib.Core.List.{List, [], _++_}
-use lib.ListN.{length, drop}
+use mathlib.Core.List.{List, []}
+use lib.ListN.{length}
+use Rattle.lists.specs.Lists.{over}
 use Rattle.model.specs.Task.{Task}
 use Rattle.model.specs.Bounds.{onCore}
 use Rattle.table.specs.declared.Verdict.{Verdict}
@@ -25,7 +26,7 @@ pub record Answered (s : List ℕ) (core : ℕ) (room : List ℕ) : Type 0 where
 
 -- every bound of the core's rows stands in front, in row order, parts in order; elements past them stay
 pub record Bounds (rows : List Task) (room : List ℕ) (r : Analysed) (room′ : List ℕ) : Type 0 where
-  pub bounds : room′ ≡ coreBounds rows ++ drop (needed rows) room
+  pub bounds : room′ ≡ over (coreBounds rows) room
   pub count : r .count ≡ needed rows
   pub size : length room′ ≡ length room
 

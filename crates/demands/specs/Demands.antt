@@ -7,8 +7,8 @@ use Rattle.model.specs.BegunSample.{BegunSample}
 use Rattle.machine.specs.NoRunIsLater.{NoRunIsLater}
 use Rattle.files.specs.RoundTrips.{GoodFileIsShort, UnusedHasNoSay}
 use Rattle.files.specs.Enough.{EnoughToJudge}
-use Rattle.text.specs.Text.{Decimal}
-use Rattle.sheet.specs.Claims.{TextIsShort, TextIsPrinted, LineOfItsRow}
+use Rattle.text.specs.Text.{Decimal, LinesAreTheText}
+use Rattle.sheet.specs.Claims.{TextIsShort, TextIsPrinted, SheetOfTheFront, LineOfItsRow, LineOfItsCore, NoOtherLine, LineOfARefusal}
 use Rattle.sheet.specs.SetA.{SetAReport}
 use Rattle.demands.specs.Demand1.{Demand1}
 use Rattle.demands.specs.Demand2.{Demand2}
@@ -42,7 +42,14 @@ pub record SheetClaims : Type 0 where
   pub decimals : Decimal
   pub short : TextIsShort
   pub printed : TextIsPrinted
-  pub lines : LineOfItsRow
+  -- the sheet of the first 5,124 bytes is that of the whole input
+  pub front : SheetOfTheFront
+  -- each line of a good file's sheet, at its place; a refused file prints one
+  pub rowLines : LineOfItsRow
+  pub coreLines : LineOfItsCore
+  pub noOther : NoOtherLine
+  pub refused : LineOfARefusal
+  pub cut : LinesAreTheText
 
 -- samples: those marked P, the machine's, and a second table beside Set A
 pub record WorkedSamples : Type 0 where

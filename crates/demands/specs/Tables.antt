@@ -4,6 +4,7 @@ use mathlib.Core.Path.{_≡_}
 use mathlib.Core.Logic.{_↔_}
 use mathlib.Core.List.{List, _∷_, _++_}
 use lib.ListN.{length, take, drop, replicate}
+use Rattle.lists.specs.Lists.{over}
 use Rattle.model.specs.Rows.{Within}
 use Rattle.model.specs.Bounds.{onCore}
 use Rattle.table.specs.declared.Row.{Row}
@@ -75,7 +76,7 @@ pub data MemoryRule (t : Table) (core room : ℕ) : Verdict → Type 0 where
 pub record WriteSays (t : Table) (out : List ℕ) (r : Written) (out′ : List ℕ) : Type 0 where
   pub codes : (v : Verdict) → (r .verdict ≡ v) ↔ WriteRule t (length out) v
   pub kept : (codeOf (r .verdict) ≡ 0 → ⊥) → (out′ ≡ out) × (r .count ≡ 0)
-  pub written : codeOf (r .verdict) ≡ 0 → (out′ ≡ fileOf t ++ drop (length (fileOf t)) out) × (r .count ≡ length (fileOf t))
+  pub written : codeOf (r .verdict) ≡ 0 → (out′ ≡ over (fileOf t) out) × (r .count ≡ length (fileOf t))
 
 -- a good table is analysed as the file that it is written as, so that demands 2 and 3 are about tables too
 pub record AsFile (t : Table) : Type 0 where
