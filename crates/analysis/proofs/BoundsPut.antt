@@ -27,7 +27,7 @@ use Rattle.table.proofs.Ahead.{Ahead, lent, Next, next, none-ahead, stored-ahea
 use Rattle.cores.specs.declared.Core.{Core}
 use Rattle.cores.specs.Cores.{tasksIn}
 use Rattle.cores.specs.Promises.{IsCore}
-use Rattle.cores.proofs.GoodCores.{times-count}
+use Rattle.table.proofs.Stored.{times-count}
 use Rattle.analysis.specs.declared.Top.{Top}
 use Rattle.analysis.specs.Analysis.{coreBounds}
 use Rattle.analysis.specs.Promises.{Bounding, ToBound, boundsOn, windowLength, late, topRow, topOf, Bounded}

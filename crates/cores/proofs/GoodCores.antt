@@ -1,11 +1,11 @@
 -- The rows of a core of a table without a fault are good, and have at most 1,024 parts. Assumes nothing.
 use Prim.Native.Nat.{ℕ, _+_, _≤_}
 use native.Mathlib.Omega.{arith}
-use mathlib.Core.Path.{_≡_, refl, sym, ap, _∙_}
-use mathlib.Core.List.{List, [], _∷_}
+use mathlib.Core.Path.{_≡_, sym, ap}
+use mathlib.Core.List.{List}
 use lib.Dec.{eqb}
-use lib.ListN.{length, length-append}
-use Rattle.lists.specs.Lists.{each, total}
+use lib.ListN.{length}
+use Rattle.lists.specs.Lists.{total}
 use Rattle.lists.proofs.Walks.{keep-total}
 use Rattle.model.specs.Task.{Task, parts}
 use Rattle.model.specs.Bounds.{onCore}
@@ -13,17 +13,12 @@ use Rattle.table.specs.declared.Table.{Table}
 use Rattle.table.specs.Verdicts.{codeOf}
 use Rattle.table.specs.Memory.{allTimes, tasksOf}
 use Rattle.table.specs.Faults.{faultOf}
+use Rattle.table.proofs.Stored.{times-count}
 use Rattle.table.proofs.Ahead.{good-ahead}
 use Rattle.table.proofs.GoodCore.{good-core}
 use Rattle.cores.specs.Cores.{coreOf, tasksIn}
 use Rattle.cores.specs.Promises.{IsCore}
 use Rattle.cores.proofs.AskedRows.{tasks-in}
-
--- tasks have as many times as parts
-pub times-count : (ts : List Task) → length (allTimes ts) ≡ total parts ts
-unfolding each total parts
-times-count [] = refl
-times-count (t ∷ ts) = length-append (t .times) (allTimes ts) ∙ ap (_+_ (length (t .times))) (times-count ts)
 
 -- a core's rows have no more parts than all rows
 core-parts : (core : ℕ) (ts : List Task) → total parts (onCore core ts) ≤ total parts ts

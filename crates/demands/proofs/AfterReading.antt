@@ -14,8 +14,9 @@ use Rattle.demands.specs.AfterReading.{RowHas, HasTasks, AfterReading}
 use Rattle.demands.proofs.FileRule.{read-good}
 use Rattle.demands.proofs.GoodFile.{rows-stored, times-stored}
 use Rattle.demands.proofs.Answer.{read-says}
-use Rattle.demands.proofs.Placed.{place-left, place-made, time-placed}
-use Rattle.demands.proofs.GoodRows.{times-parts}
+use Rattle.lists.proofs.EachPlaces.{place-left}
+use Rattle.demands.proofs.Placed.{place-made, time-placed}
+use Rattle.table.proofs.Stored.{times-count}
 use Rattle.demands.proofs.Opened.{bytes-read}
 
 -- no rows is a good table
@@ -64,7 +65,7 @@ file-has {tasks = ts} g =
             row =
                 λ i r h p.
                 rw (place-fill zeroRow (64 - length (map rowOf ts)) (map rowOf ts) i r (rw length-map h) p) (has-own zeroRow);
-            time = λ i x h p. place-fill 0 (1024 - length (allTimes ts)) (allTimes ts) i x (rw times-parts h) p;
+            time = λ i x h p. place-fill 0 (1024 - length (allTimes ts)) (allTimes ts) i x (rw times-count h) p;
           };
     }
 

@@ -20,7 +20,7 @@ use Rattle.analysis.proofs.Given.{answered-verdict}
 use Rattle.analysis.proofs.BoundsPut.{bounds-length}
 use Rattle.analysis.specs.Analysis.{needed, coreBounds, coreSaid, writes, answered, roomAfter, Gives, fileSaid, fileRows, Analyses}
 use Rattle.demands.specs.Rules.{FileRule, GoodFile, AnalysisRule}
-use Rattle.demands.specs.Demand1.{Bounds, Says, Reads}
+use Rattle.demands.specs.Demand1.{Bounds, AnswerSays, Reads}
 use Rattle.demands.proofs.FileRule.{ReadingCode, reading-fault, good-read, by-rule, file-rule}
 use Rattle.demands.proofs.CoreRule.{rule-said, said-rule, written-code}
 use Rattle.demands.proofs.GoodFile.{core-good}
@@ -139,7 +139,7 @@ module _ (s : List ℕ) (core : ℕ) (room : List ℕ) (r : Analysed) (room′ :
       (file-rule s)
 
   -- all together
-  pub answer-says : Says s core room r room′
+  pub answer-says : AnswerSays s core room r room′
   unfolding v
   answer-says =
       let e : r .verdict ≡ v = said v _ room r room′ a in

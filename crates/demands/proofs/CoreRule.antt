@@ -14,11 +14,11 @@ use Rattle.model.proofs.Verdict.{verdict-says, judged-same}
 use Rattle.table.specs.declared.Verdict.{Verdict}
 use Rattle.table.specs.Verdicts.{codeOf}
 use Rattle.analysis.specs.Analysis.{needed, named, roomSaid, coreSaid}
-use Rattle.demands.specs.Rules.{Enough, CoreRule}
+use Rattle.demands.specs.Rules.{RoomFor, CoreRule}
 
 module _ (core : ℕ) (rows : List Task) (room : ℕ) where
   -- with such a core and room enough the verdict decides
-  enough-said : Enough core rows room → (v : CoreVerdict) → coreVerdict rows ≡ v → coreSaid core rows room ≡ named v
+  enough-said : RoomFor core rows room → (v : CoreVerdict) → coreVerdict rows ≡ v → coreSaid core rows room ≡ named v
   unfolding coreSaid roomSaid
   enough-said e v same = rw (le-ltb 3 core (e .such), le-ltb room (needed rows) (e .fits), same)
 
@@ -36,7 +36,7 @@ module _ (core : ℕ) (rows : List Task) (room : ℕ) where
   rule-said d (CoreRule.passes e p) = enough-said e passes (right d passes p)
 
   -- with such a core and room enough some rule holds
-  enough-rule : Enough core rows room → (v : CoreVerdict) → Judged rows v → CoreRule core rows room (named v)
+  enough-rule : RoomFor core rows room → (v : CoreVerdict) → Judged rows v → CoreRule core rows room (named v)
   unfolding named
   enough-rule e passes j = CoreRule.passes e j
   enough-rule e (noWindow t) j = CoreRule.window e j
@@ -59,7 +59,7 @@ module _ (core : ℕ) (rows : List Task) (room : ℕ) where
   -- ---- by the code
 
   -- 0: the core passes
-  pub passes-code : {v : Verdict} → CoreRule core rows room v → codeOf v ≡ 0 → Enough core rows room × Passes rows
+  pub passes-code : {v : Verdict} → CoreRule core rows room v → codeOf v ≡ 0 → RoomFor core rows room × Passes rows
   passes-code (CoreRule.above h) e = absurd (omega arith)
   passes-code (CoreRule.short h k) e = absurd (omega arith)
   passes-code (CoreRule.window n w) e = absurd (omega arith)
@@ -67,7 +67,7 @@ module _ (core : ℕ) (rows : List Task) (room : ℕ) where
   passes-code (CoreRule.passes n p) e = (n, p)
 
   -- 12: every row has a window
-  pub late-code : {v : Verdict} → CoreRule core rows room v → codeOf v ≡ 12 → Enough core rows room × AllWindows rows
+  pub late-code : {v : Verdict} → CoreRule core rows room v → codeOf v ≡ 12 → RoomFor core rows room × AllWindows rows
   late-code (CoreRule.above h) e = absurd (omega arith)
   late-code (CoreRule.short h k) e = absurd (omega arith)
   late-code (CoreRule.window n w) e = absurd (omega arith)
@@ -75,6 +75,6 @@ module _ (core : ℕ) (rows : List Task) (room : ℕ) where
   late-code (CoreRule.passes n p) e = absurd (omega arith)
 
   -- so it is with either
-  pub written-code : {v : Verdict} → CoreRule core rows room v → (codeOf v ≡ 0) ⊎ (codeOf v ≡ 12) → Enough core rows room × AllWindows rows
+  pub written-code : {v : Verdict} → CoreRule core rows room v → (codeOf v ≡ 0) ⊎ (codeOf v ≡ 12) → RoomFor core rows room × AllWindows rows
   written-code r (inl e) = let c = passes-code r e in (c .0, c .1 .windows)
   written-code r (inr e) = late-code r e

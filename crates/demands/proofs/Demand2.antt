@@ -17,15 +17,15 @@ use Rattle.table.specs.Verdicts.{codeOf}
 use Rattle.files.proofs.RoundTrips.{written-is-read, read-is-written}
 use Rattle.analysis.specs.declared.Analysed.{Analysed}
 use Rattle.analysis.specs.Analysis.{needed, coreSaid, Gives, fileSaid, fileRows, Analyses}
-use Rattle.demands.specs.Rules.{GoodFile, Enough, CoreRule, AnalysisRule}
-use Rattle.demands.specs.Least.{Meets}
+use Rattle.demands.specs.Rules.{GoodFile, RoomFor, CoreRule, AnalysisRule}
+use Rattle.demands.specs.Equations.{Meets}
 use Rattle.demands.specs.Demand2.{LeavesBounds, Isolated, Demand2}
 use Rattle.demands.proofs.FileRule.{good-read}
 use Rattle.demands.proofs.GoodFile.{core-good}
 use Rattle.demands.proofs.Answer.{answer-says}
 use Rattle.demands.proofs.Passed.{core-passes, all-windows, bounds-left}
 use Rattle.demands.proofs.Placed.{bound-placed}
-use Rattle.demands.proofs.Least.{window-is, one-bound, bound-is, equations}
+use Rattle.demands.proofs.Equations.{window-is, one-bound, bound-is, equations}
 use Rattle.demands.proofs.Unique.{gives-one}
 
 -- a core passes by the model exactly if each row meets its deadline by the equations
@@ -75,7 +75,7 @@ module _ (s : List ℕ) (core : ℕ) (room : List ℕ) (r : Analysed) (room′ :
       )
 
   -- the core passes exactly if each row meets its deadline
-  passes-exactly : Enough core (onCore core tasks) (length room)
+  passes-exactly : RoomFor core (onCore core tasks) (length room)
       → (codeOf (r .verdict) ≡ 0) ↔ ((t : Task) → t ∈ onCore core tasks → Meets (onCore core tasks) t)
   passes-exactly e = (
     λ c. passes-meets (onCore core tasks) (core-good core g) (core-passes s core room r room′ a tasks g c),

@@ -7,7 +7,7 @@ use mathlib.Core.Logic.{_⊎_, inl, inr, ⊎-elim}
 use mathlib.Core.List.{List, [], _∷_, _++_, map}
 use lib.ListN.{length, getD, replicate, length-append}
 use lib.Dec.{ltb}
-use Rattle.lists.specs.Lists.{total, Place}
+use Rattle.lists.specs.Lists.{each, total, Place}
 use Rattle.lists.proofs.Tests.{by-test, either}
 use Rattle.lists.proofs.Places.{place-in}
 use Rattle.numbers.specs.Numbers.{Bytes, encodeIn, encode, encodeAll}
@@ -20,6 +20,7 @@ use Rattle.table.specs.declared.Verdict.{Verdict}
 use Rattle.table.specs.Verdicts.{codeOf}
 use Rattle.table.specs.Fields.{field, partCount, head, time}
 use Rattle.table.specs.Memory.{rowOf, allTimes}
+use Rattle.table.proofs.Stored.{times-count}
 use Rattle.table.proofs.Fine.{Fine, AllFine}
 use Rattle.table.proofs.GoodTasks.{FineTask, FineTasks, GoodTasks}
 use Rattle.files.specs.Writing.{encodeFile}
@@ -58,7 +59,7 @@ bytes-number (suc k) n =
 
 -- numbers one after another
 bytes-numbers : (ns : List ℕ) → Bytes (encodeAll ns)
-unfolding encodeAll encode
+unfolding each encode
 bytes-numbers [] = bytes-none
 bytes-numbers (n ∷ ns) = bytes-append (encode n) (encodeAll ns) (bytes-number 5 n) (bytes-numbers ns)
 
@@ -163,12 +164,6 @@ fine-tasks used [] g h = tt
 fine-tasks used (t ∷ ts) g h =
     (fine-task used t (g 0 t refl) (unfold parts in omega arith), fine-tasks _ ts (λ i u p. g (suc i) u p) (omega arith))
 
--- the times of tasks are as many as their parts
-pub times-parts : (ts : List Task) → length (allTimes ts) ≡ total parts ts
-unfolding allTimes total parts
-times-parts [] = refl
-times-parts (t ∷ ts) = rw (length-append (t .times) (allTimes ts)) (ap (_+_ (length (t .times))) (times-parts ts))
-
 -- good rows
 rows-good : (tasks : List Task) → GoodRows tasks → GoodTasks tasks
 rows-good tasks g =
@@ -186,7 +181,7 @@ file-rows : (s : List ℕ) (tasks : List Task) → GoodFile s tasks → GoodRows
 file-rows s tasks file =
     record {
       rows = good-tasks file .few;
-      times = omega (arith, times-parts tasks, few-times file);
+      times = omega (arith, times-count tasks, few-times file);
       ranges = λ i t p. task-good file t (place-in tasks i t p);
       apart = none-against tasks (good-none (file .apart) refl);
     }

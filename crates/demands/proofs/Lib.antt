@@ -11,7 +11,7 @@ pub mod Answer
 pub mod Demand1
 pub mod TableCodes
 pub mod Placed
-pub mod Least
+pub mod Equations
 pub mod Passed
 pub mod Demand2
 pub mod Demand3

@@ -1,8 +1,8 @@
 -- The samples hold. What stands on bytes computes; the bounds are cited.
 use mathlib.Core.Path.{_≡_, refl}
 use mathlib.Core.List.{[], _∷_}
-use Rattle.model.specs.Samples.{setA}
-use Rattle.model.proofs.Samples as Model
+use Rattle.model.specs.BoundSamples.{setA}
+use Rattle.model.proofs.BoundSamples as Model
 use Rattle.table.specs.declared.Verdict.the-variants as C
 use Rattle.fields.specs.Stepping.{go}
 use Rattle.files.specs.Reading.{decode}

@@ -161,7 +161,7 @@ module _ (t : Table) where
   unfolding faultOf
   rule-fault (TableRule.count h) = rw (lt-ltb 64 (t .count) h)
   rule-fault (TableRule.out {n = n} {x = x} {w = w} h a o) = bad-said (C.OutOfRange n) h a (out-judged w n x o) (λ e. omega arith)
-  rule-fault (TableRule.over {n = n} {x = x} {w = w} h a r o) =
+  rule-fault (TableRule.tooMany {n = n} {x = x} {w = w} h a r o) =
       bad-said (C.TooManyTimes n) h a (over-judged w n x r o) (λ e. omega arith)
   rule-fault (TableRule.rows h f c) =
       rw (le-ltb 64 (t .count) h)
@@ -172,7 +172,7 @@ module _ (t : Table) where
   bad-rule h n w x a b =
       ⊎-elim
       (λ r.
-      ⊎-elim (λ over. (_, TableRule.over h a r over)) (λ left. absurd (b (record { range = r; left = left }))) (either (w .left) x))
+      ⊎-elim (λ over. (_, TableRule.tooMany h a r over)) (λ left. absurd (b (record { range = r; left = left }))) (either (w .left) x))
       (λ out. (_, TableRule.out h a out)) (in-range w x)
 
   -- some rule holds
@@ -192,5 +192,5 @@ module _ (t : Table) where
   pub table-code : {v : Verdict} → TableRule t v → (v ≡ C.Good) ⊎ ReadingCode v
   table-code (TableRule.count h) = inr (omega arith)
   table-code (TableRule.out h a o) = inr (omega arith)
-  table-code (TableRule.over h a r o) = inr (omega arith)
+  table-code (TableRule.tooMany h a r o) = inr (omega arith)
   table-code (TableRule.rows h f c) = clash-code (usedRows t) c

@@ -31,7 +31,7 @@ pub record Bounds (rows : List Task) (room : List ℕ) (r : Analysed) (room′ :
   pub size : length room′ ≡ length room
 
 -- what an answer and the room left say
-pub record Says (s : List ℕ) (core : ℕ) (room : List ℕ) (r : Analysed) (room′ : List ℕ) : Type 0 where
+pub record AnswerSays (s : List ℕ) (core : ℕ) (room : List ℕ) (r : Analysed) (room′ : List ℕ) : Type 0 where
   -- the verdict is this one, with the number that it carries, exactly if its rule says so
   pub codes : (v : Verdict) → (r .verdict ≡ v) ↔ AnalysisRule s core (length room) v
   -- every refusal but 12 changes nothing lent
@@ -49,5 +49,5 @@ pub record Reads (s : List ℕ) : Type 0 where
 -- demand 1
 pub record Demand1 : Type 0 where
   pub one : (s : List ℕ) (core : ℕ) (room : List ℕ) → Answered s core room
-  pub says : (s : List ℕ) (core : ℕ) (room : List ℕ) (r : Analysed) (room′ : List ℕ) → Analyses s core room r room′ → Says s core room r room′
+  pub says : (s : List ℕ) (core : ℕ) (room : List ℕ) (r : Analysed) (room′ : List ℕ) → Analyses s core room r room′ → AnswerSays s core room r room′
   pub reads : (s : List ℕ) → Reads s

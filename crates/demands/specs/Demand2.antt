@@ -14,8 +14,8 @@ use Rattle.table.specs.Verdicts.{codeOf}
 use Rattle.files.specs.RoundTrips.{WrittenIsRead, ReadIsWritten}
 use Rattle.analysis.specs.declared.Analysed.{Analysed}
 use Rattle.analysis.specs.Analysis.{Analyses}
-use Rattle.demands.specs.Rules.{GoodFile, Enough}
-use Rattle.demands.specs.Least.{IsWindow, IsBound, Equations, Meets}
+use Rattle.demands.specs.Rules.{GoodFile, RoomFor}
+use Rattle.demands.specs.Equations.{IsWindow, IsBound, Equations, Meets}
 use Rattle.demands.specs.Demand3.{placeOf}
 
 -- the numbers left are the bounds of the core's rows
@@ -38,7 +38,7 @@ pub record Demand2 : Type 0 where
       → (codeOf (r .verdict) ≡ 0) ⊎ (codeOf (r .verdict) ≡ 12)
       → (tasks : List Task) → GoodFile s tasks → LeavesBounds (onCore core tasks) room′
   pub passes : (s : List ℕ) (core : ℕ) (room : List ℕ) (r : Analysed) (room′ : List ℕ) → Analyses s core room r room′
-      → (tasks : List Task) → GoodFile s tasks → Enough core (onCore core tasks) (length room)
+      → (tasks : List Task) → GoodFile s tasks → RoomFor core (onCore core tasks) (length room)
       → (codeOf (r .verdict) ≡ 0) ↔ ((t : Task) → t ∈ onCore core tasks → Meets (onCore core tasks) t)
   pub written-is-read : WrittenIsRead
   pub read-is-written : ReadIsWritten

@@ -1,6 +1,6 @@
 pub mod Reached
 pub mod Rules
-pub mod Least
+pub mod Equations
 pub mod Demand1
 pub mod Demand2
 pub mod Demand3

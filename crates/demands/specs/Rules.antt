@@ -101,7 +101,7 @@ pub record GoodFile (s : List ℕ) (tasks : List Task) : Type 0 where
 -- ---- 9, 10, 11, 12 and 0: a core, its rows, and so much room
 
 -- there is such a core, and room for the parts on it
-pub record Enough (core : ℕ) (rows : List Task) (room : ℕ) : Type 0 where
+pub record RoomFor (core : ℕ) (rows : List Task) (room : ℕ) : Type 0 where
   pub such : core ≤ 3
   pub fits : needed rows ≤ room
 
@@ -112,11 +112,11 @@ pub data CoreRule (core : ℕ) (rows : List Task) (room : ℕ) : Verdict → Typ
   -- room too short: elements needed
   short : core ≤ 3 → room < needed rows → CoreRule core rows room (C.NoRoom (needed rows))
   -- a window has no length up to the limit: id of the highest such task
-  window : {t : Task} → Enough core rows room → NoWindow rows t → CoreRule core rows room (C.NoWindow (t .id))
+  window : {t : Task} → RoomFor core rows room → NoWindow rows t → CoreRule core rows room (C.NoWindow (t .id))
   -- a deadline is missed: id of the highest such task
-  late : {t : Task} → Enough core rows room → Misses rows t → CoreRule core rows room (C.Missed (t .id))
+  late : {t : Task} → RoomFor core rows room → Misses rows t → CoreRule core rows room (C.Missed (t .id))
   -- good: every row has a window up to the limit, and its last bound is within its deadline
-  passes : Enough core rows room → Passes rows → CoreRule core rows room C.Good
+  passes : RoomFor core rows room → Passes rows → CoreRule core rows room C.Good
 
 -- an analysis: the reading codes, and for a good file those of the core
 pub data AnalysisRule (s : List ℕ) (core room : ℕ) : Verdict → Type 0 where

@@ -4,8 +4,8 @@ use mathlib.Core.Path.{_≡_}
 use mathlib.Core.List.{List, [], _∷_}
 use Rattle.numbers.specs.Numbers.{numberAt}
 use Rattle.numbers.specs.declared.Number.the-variants as N
-use Rattle.model.specs.Samples.{setA, one, full}
-use Rattle.model.specs.Samples as Model
+use Rattle.model.specs.BoundSamples.{setA, one, full}
+use Rattle.model.specs.BoundSamples as Model
 use Rattle.table.specs.declared.Verdict.the-variants as C
 use Rattle.fields.specs.Stepping.{stop, go}
 use Rattle.files.specs.Reading.{decode}
@@ -18,7 +18,7 @@ bytesA d =
 
 -- all of them
 pub record Samples : Type 0 where
-  pub onBounds : Model.Samples
+  pub onBounds : Model.BoundSamples
   -- FF FF FF 07 read as 16,777,215
   pub fourBytes : numberAt (255 ∷ 255 ∷ 255 ∷ 7 ∷ []) 0 ≡ N.Got 16777215 4
   -- 80 00: code 2 at offset 0

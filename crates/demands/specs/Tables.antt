@@ -56,7 +56,7 @@ InTable t n w x = InRows 0 0 (usedRows t) (t .times) n w x
 pub data TableRule (t : Table) : Verdict → Type 0 where
   count : 64 < t .count → TableRule t (C.OutOfRange 64)
   out : {n x : ℕ} {w : Wanted} → t .count ≤ 64 → InTable t n w x → (Within (w .low) (w .high) x → ⊥) → TableRule t (C.OutOfRange n)
-  over : {n x : ℕ} {w : Wanted} → t .count ≤ 64 → InTable t n w x → Within (w .low) (w .high) x → w .left < x
+  tooMany : {n x : ℕ} {w : Wanted} → t .count ≤ 64 → InTable t n w x → Within (w .low) (w .high) x → w .left < x
       → TableRule t (C.TooManyTimes n)
   rows : {v : Verdict} → t .count ≤ 64 → ((n x : ℕ) (w : Wanted) → InTable t n w x → MayBe w x) → ClashRule (usedRows t) v
       → TableRule t v

@@ -10,7 +10,7 @@ pub mod Exists
 pub mod Responses
 pub mod Verdict
 pub mod Windows
-pub mod Samples
+pub mod BoundSamples
 pub mod Released
 pub mod Periodic
 pub mod Computed

@@ -6,7 +6,7 @@ use mathlib.Core.List.{List, [], _∷_}
 use Rattle.model.specs.declared.Found.the-variants.{At}
 use Rattle.model.specs.Task.{Task}
 use Rattle.model.specs.Bounds.{start, finish}
-use Rattle.model.specs.Samples.{row}
+use Rattle.model.specs.BoundSamples.{row}
 use Rattle.model.specs.MachineSample.{ranIn, together}
 
 -- the higher row by its kind, 0 preemptive or 1 cooperative

@@ -3,7 +3,7 @@ pub mod Rows
 pub mod Least
 pub mod Bounds
 pub mod Verdict
-pub mod Samples
+pub mod BoundSamples
 pub mod Machine
 pub mod MachineSample
 pub mod BegunSample

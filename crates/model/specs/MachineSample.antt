@@ -8,7 +8,7 @@ use Rattle.model.specs.Task.{Task, part}
 use Rattle.model.specs.Rows.{GoodCore}
 use Rattle.model.specs.Bounds.{idOf}
 use Rattle.model.specs.Machine.{Run, released, runs, standAt, Allowed}
-use Rattle.model.specs.Samples.{a3, setA, b2, pair}
+use Rattle.model.specs.BoundSamples.{a3, setA, b2, pair}
 
 -- each task released in its first tick and then each period, every part using its worst time
 unfoldable pub periodic : (Task → ℕ) → Run

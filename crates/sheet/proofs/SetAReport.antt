@@ -6,7 +6,7 @@ use Rattle.numbers.specs.Numbers.{groups, numberAt}
 use Rattle.model.specs.Least.{least, scan, found, value, maxBelow}
 use Rattle.model.specs.Task.{parts, part, partsBefore, cost}
 use Rattle.model.specs.Bounds as bounds
-use Rattle.model.specs.Samples.{setA}
+use Rattle.model.specs.BoundSamples.{setA}
 use Rattle.table.specs.Verdicts.{good, _orElse_}
 use Rattle.table.specs.Fields.{head, judge}
 use Rattle.table.specs.Memory.{allTimes}

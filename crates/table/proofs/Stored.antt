@@ -7,7 +7,8 @@ use lib.ListN.{length, take, drop, length-map, length-drop}
 use lib.Seq.{take-append-seam, drop-append-seam, take-at, take-add, length-take-le}
 use Rattle.lists.specs.Lists.{total, each}
 use Rattle.lists.proofs.Fronts.{take-front, drop-front}
-use Rattle.model.specs.Task.{Task}
+use Rattle.lists.proofs.Each.{each-length}
+use Rattle.model.specs.Task.{Task, parts}
 use Rattle.table.specs.declared.Row.{Row}
 use Rattle.table.specs.declared.Table.{Table}
 use Rattle.table.specs.Verdicts.{_orElse_}
@@ -21,6 +22,11 @@ rows-length ts = length-map ts rowOf
 -- one task more: its row stands last
 pub rows-snoc : (ts : List Task) (t : Task) → rowsOf (ts ++ (t ∷ [])) ≡ rowsOf ts ++ (rowOf t ∷ [])
 rows-snoc ts t = map-append rowOf ts (t ∷ [])
+
+-- as many times as parts
+pub times-count : (ts : List Task) → length (allTimes ts) ≡ total parts ts
+unfolding parts
+times-count ts = each-length (λ t. t .times) ts
 
 -- ---- what is stored is found again
 

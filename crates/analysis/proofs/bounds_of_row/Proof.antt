@@ -73,7 +73,7 @@ row-bounds-requires c κs =
     let first = pre .before .before .before in
     let b = entry first .pre in (
       bounds-may (b .0) (front-is (first .own-first .ensures)) (front-is (pre .preemptive-loads .ensures)) (kind-is _ _ _ _ _ (b .0))
-      (first .before .before .blocking-of .ensures),
+          (first .before .before .blocking-of .ensures),
       b .1,
     )
 

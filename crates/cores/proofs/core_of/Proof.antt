@@ -23,7 +23,7 @@ use Rattle.table.proofs.Laid.{Laid, laid-stored, times-long, behind-length, lai
 use Rattle.table.proofs.Ahead.{Ahead, lent, Next, next, none-ahead, good-ahead}
 use Rattle.cores.specs.declared.Asked.{Asked}
 use Rattle.cores.specs.Cores.{askedOf, askedNothing, coreOf}
-use Rattle.cores.proofs.GoodCores.{times-count}
+use Rattle.table.proofs.Stored.{times-count}
 use Rattle.cores.proofs.core_of.Statement.{statement}
 use Rattle.cores.proofs.core_of.Tie as tie
 

@@ -36,7 +36,6 @@ is-core c =
 own-rows : (c : tie.After-core-of) → tasksIn (c .core-of .result) ≡ onCore (entry c .args .core) (tasksOf (entry c .args .t))
 own-rows c = ap tasksIn (c .core-of .ensures) ∙ tasks-in _
 
-
 core-of-requires : tie.Need-core-of-requires
 core-of-requires c κs = search needs
 

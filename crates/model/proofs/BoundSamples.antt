@@ -10,7 +10,7 @@ use Rattle.model.specs.Task.{cost, part, partsBefore, parts}
 use Rattle.model.specs.Bounds.{limit, up, down, before, through, cooperative, preemptive, higher, lower, blocking}
 use Rattle.model.specs.Bounds.{demand, window, jobs, preemptiveEnd, start, endFrom, finish, response, bound, meetsDeadline}
 use Rattle.model.specs.Bounds.{above, highest, judgedBy, coreVerdict, passes, noWindow}
-use Rattle.model.specs.Samples.{Samples, most, one, d1, d2, full, printedStart, printedEnd}
+use Rattle.model.specs.BoundSamples.{BoundSamples, most, one, d1, d2, full, printedStart, printedEnd}
 use Rattle.model.proofs.Demand.{window-from-cost, end-from-own}
 use Rattle.model.proofs.Least.{least-never}
 use Rattle.model.proofs.Rounding.{before-is, before-pos, up-one}
@@ -81,7 +81,7 @@ unfolding verdicts
 fullD = rw (windowD1, windowD2)
 
 -- all samples hold
-pub samples : Samples
+pub samples : BoundSamples
 unfolding all
 samples =
     record {

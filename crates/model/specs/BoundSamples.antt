@@ -70,7 +70,7 @@ module _ (rows : List Task) (t : Task) (r : ℕ) where
       (s + part t r)
       limit
 
-pub record Samples : Type 0 where
+pub record BoundSamples : Type 0 where
   pub windowsA : (window (setA 20) a1 ≡ At 1) × (window (setA 20) a2 ≡ At 8) × (window (setA 20) (a3 20) ≡ At 10)
   pub boundsA1 : bound (setA 20) a1 0 ≡ 1
   pub boundsA2 : (bound (setA 20) a2 0 ≡ 5) × (bound (setA 20) a2 1 ≡ 8)

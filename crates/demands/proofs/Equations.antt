@@ -19,7 +19,7 @@ use Rattle.model.proofs.Exists.{the-window, finish-range, cooperative-range, fi
 use Rattle.model.proofs.Responses.{response-at}
 use Rattle.model.proofs.Rounding.{before-pos}
 use Rattle.model.proofs.Rows.{period-pos, is-cooperative, is-preemptive, other-kind}
-use Rattle.demands.specs.Least.{IsWindow, endSide, endFromSide, EndsAt, IsBound, Equations}
+use Rattle.demands.specs.Equations.{IsWindow, endSide, endFromSide, EndsAt, IsBound, Equations}
 
 -- two least solutions are the same
 one-least : (g : ℕ → ℕ) (from limit x y : ℕ) → IsLeast g from limit x → IsLeast g from limit y → x ≡ y
