@@ -1,40 +1,22 @@
 -- An answer with nothing written, and one with all bounds written. Assumes nothing.
 use Prim.Native.Nat.{ℕ}
-use native.Mathlib.Omega.{arith}
-use borrow.Author.Tests.{eq-eqb, ne-eqb}
-use mathlib.Core.Path.{_≡_, refl, subst}
+use borrow.Author.Tests.{ne-eqb}
+use mathlib.Core.Path.{_≡_, subst}
 use mathlib.Core.Bool.{true, false}
 use mathlib.Core.List.{List}
 use Rattle.lists.specs.Lists.{over}
-use Rattle.lists.proofs.Tests.{by-test, never}
+use Rattle.lists.proofs.Tests.{by-test}
 use Rattle.model.specs.Task.{Task}
 use Rattle.table.specs.declared.Verdict.{Verdict}
-use Rattle.table.specs.declared.Verdict.the-variants.{Good, EndsEarly, Malformed, OutOfRange, IdTwice, PriorityTwice}
-use Rattle.table.specs.declared.Verdict.the-variants.{KindsCrossed, TooManyTimes, Trailing, NoSuchCore, NoRoom, NoWindow, Missed}
-use Rattle.table.specs.Verdicts.{codeOf, good, reading}
+use Rattle.table.specs.Verdicts.{codeOf}
+use Rattle.table.proofs.ReadingCodes.{RefusedReading, refused-not-0, refused-not-12}
 use Rattle.analysis.specs.declared.Analysed.{Analysed}
 use Rattle.analysis.specs.Analysis.{needed, coreBounds, writes, refusal, answered, roomAfter, Gives}
 
--- a verdict of reading that is no good one writes nothing
-pub reading-writes-none : (v : Verdict) → good v ≡ false → reading v ≡ true → writes v ≡ false
-unfolding writes good
-reading-writes-none v h r =
-    rw (ne-eqb (codeOf v) 0 (λ e. never (eq-eqb (codeOf v) 0 e) h), ne-eqb (codeOf v) 12 (λ e. not-missed v r e))
-  where
-    not-missed : (w : Verdict) → reading w ≡ true → codeOf w ≡ 12 → ⊥
-    not-missed Good r e = omega arith
-    not-missed (EndsEarly n) r e = omega arith
-    not-missed (Malformed n) r e = omega arith
-    not-missed (OutOfRange n) r e = omega arith
-    not-missed (IdTwice n) r e = omega arith
-    not-missed (PriorityTwice n) r e = omega arith
-    not-missed (KindsCrossed n) r e = omega arith
-    not-missed (TooManyTimes n) r e = omega arith
-    not-missed (Trailing n) r e = omega arith
-    not-missed (NoSuchCore n) r e = omega arith
-    not-missed (NoRoom n) r e = omega arith
-    not-missed (NoWindow n) r e = omega arith
-    not-missed (Missed n) r e = never r refl
+-- a refused reading writes nothing
+pub reading-writes-none : (v : Verdict) → RefusedReading v → writes v ≡ false
+unfolding writes
+reading-writes-none v r = rw (ne-eqb (codeOf v) 0 (refused-not-0 v r), ne-eqb (codeOf v) 12 (refused-not-12 v r))
 
 module _ (said v : Verdict) (rows : List Task) (room : List ℕ) (same : said ≡ v) where
   -- nothing is written

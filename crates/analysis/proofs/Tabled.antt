@@ -5,17 +5,16 @@ use mathlib.Core.Path.{_≡_, refl, sym, ap, subst, _∙_}
 use mathlib.Core.Bool.{true, false}
 use mathlib.Core.List.{List}
 use lib.ListN.{length}
-use Rattle.lists.proofs.Tests.{never}
 use Rattle.model.specs.Task.{Task}
 use Rattle.model.specs.Bounds.{onCore}
 use Rattle.table.specs.declared.Table.{Table}
 use Rattle.table.specs.declared.Verdict.{Verdict}
 use Rattle.table.specs.declared.Verdict.the-variants.{NoSuchCore}
-use Rattle.table.specs.Verdicts.{codeOf, good, reading}
+use Rattle.table.specs.Verdicts.{codeOf, reading}
 use Rattle.table.specs.Memory.{tasksOf, stored}
 use Rattle.table.specs.Faults.{faultOf}
-use Rattle.table.proofs.Codes.{is-good, is-fault, or-good, fault-stays}
-use Rattle.table.proofs.ReadingCodes.{fault-reading}
+use Rattle.table.proofs.Codes.{is-fault, or-good, fault-stays}
+use Rattle.table.proofs.ReadingCodes.{fault-reading, refused-not-0}
 use Rattle.table.proofs.Stored.{tasks-stored}
 use Rattle.table.proofs.GoodTasks.{stored-good}
 use Rattle.files.specs.declared.Loaded.{Loaded}
@@ -57,7 +56,8 @@ module _ (t : Table) (core : ℕ) (room : List ℕ) where
   unfolding tableSaid
   faulty {v = v} same code h e =
       gives-none _ v _ room (sym (fault-stays same code _ h))
-      (reading-writes-none v (is-fault v (λ z. h (code ∙ z))) (subst (λ (x : Verdict). reading x ≡ true) (sym same) (fault-reading t))) e
+      (reading-writes-none v
+      (record { fault = is-fault v (λ z. h (code ∙ z)); read = subst (λ (x : Verdict). reading x ≡ true) (sym same) (fault-reading t) })) e
 
   -- without one, what its core says
   pub faultless : codeOf (faultOf t) ≡ 0 → {r : Analysed} {room′ : List ℕ} → AnalysesGood t core room r room′
@@ -68,13 +68,13 @@ module _ (t : Table) (core : ℕ) (room : List ℕ) where
 module _ (s : List ℕ) (l : Loaded) (read : l ≡ readAnswer s) where
   -- a table that was read has no fault
   pub read-faultless : codeOf (l .verdict) ≡ 0 → codeOf (faultOf (l .table)) ≡ 0
-  unfolding readAnswer good
+  unfolding readAnswer
   read-faultless fine = of (decode s) refl
     where
       of : (x : Step (List Task)) → decode s ≡ x → codeOf (faultOf (l .table)) ≡ 0
       of (stop v) e =
           let own : l .verdict ≡ v = ap (λ (y : Loaded). y .verdict) (read ∙ ap loaded e) in
-          absurd (never (is-good v (sym (ap codeOf own) ∙ fine)) (stop-fault s v e .0))
+          absurd (refused-not-0 v (stop-fault s v e) (sym (ap codeOf own) ∙ fine))
       of (go ts n) e =
           let own : l .table ≡ stored ts = ap (λ (y : Loaded). y .table) (read ∙ ap loaded e) in
           ap (λ (t : Table). codeOf (faultOf t)) own ∙ stored-good ts (file-back s ts n e .good)
@@ -88,20 +88,19 @@ module _ (s : List ℕ) (l : Loaded) (read : l ≡ readAnswer s) where
         of : (x : Step (List Task)) → decode s ≡ x → Gives (fileSaid x core (length room)) (fileRows x core) room r room
         of (stop v) e =
             let own : l .verdict ≡ v = ap (λ (y : Loaded). y .verdict) (read ∙ ap loaded e) in
-            let w = stop-fault s v e in
-            gives-none v v _ room refl (reading-writes-none v (w .0) (w .1)) (told ∙ ap refusal own)
+            gives-none v v _ room refl (reading-writes-none v (stop-fault s v e)) (told ∙ ap refusal own)
         of (go ts n) e = absurd (h (code ∙ ap (λ (y : Loaded). codeOf (y .verdict)) (read ∙ ap loaded e)))
 
     -- a read table: what its core says
     pub as-table : codeOf (l .verdict) ≡ 0 → {r : Analysed} {room′ : List ℕ} → AnalysesGood (l .table) core room r room′
         → Analyses s core room r room′
-    unfolding readAnswer fileSaid fileRows good
+    unfolding readAnswer fileSaid fileRows
     as-table fine {r = r} {room′ = room′} g = of (decode s) refl
       where
         of : (x : Step (List Task)) → decode s ≡ x → Gives (fileSaid x core (length room)) (fileRows x core) room r room′
         of (stop v) e =
             let own : l .verdict ≡ v = ap (λ (y : Loaded). y .verdict) (read ∙ ap loaded e) in
-            absurd (never (is-good v (sym (ap codeOf own) ∙ fine)) (stop-fault s v e .0))
+            absurd (refused-not-0 v (stop-fault s v e) (sym (ap codeOf own) ∙ fine))
         of (go ts n) e =
             let own : tasksOf (l .table) ≡ ts
             = ap (λ (y : Loaded). tasksOf (y .table)) (read ∙ ap loaded e) ∙ tasks-stored ts in

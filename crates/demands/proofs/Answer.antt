@@ -14,6 +14,7 @@ use Rattle.model.specs.Bounds.{onCore}
 use Rattle.table.specs.declared.Verdict.{Verdict}
 use Rattle.table.specs.Verdicts.{codeOf}
 use Rattle.table.specs.Memory.{stored}
+use Rattle.table.proofs.ReadingCodes.{RefusedReading, refused-not-0, refused-not-12}
 use Rattle.files.specs.Reading.{decode, readAnswer}
 use Rattle.analysis.specs.declared.Analysed.{Analysed}
 use Rattle.analysis.proofs.Given.{answered-verdict}
@@ -21,7 +22,7 @@ use Rattle.analysis.proofs.BoundsPut.{bounds-length}
 use Rattle.analysis.specs.Analysis.{needed, coreBounds, coreSaid, writes, answered, roomAfter, Gives, fileSaid, fileRows, Analyses}
 use Rattle.demands.specs.Rules.{FileRule, GoodFile, AnalysisRule}
 use Rattle.demands.specs.Demand1.{Bounds, AnswerSays, Reads}
-use Rattle.demands.proofs.FileRule.{ReadingCode, reading-fault, good-read, by-rule, file-rule}
+use Rattle.demands.proofs.FileRule.{reading-fault, good-read, by-rule, file-rule}
 use Rattle.demands.proofs.CoreRule.{rule-said, said-rule, written-code}
 use Rattle.demands.proofs.GoodFile.{core-good}
 
@@ -78,11 +79,11 @@ module _ (s : List ℕ) where
 -- ---- the room
 
 -- codes 0 and 12 are those that write
-abbrev Writes : Verdict → Type 0
-Writes v = (codeOf v ≡ 0) ⊎ (codeOf v ≡ 12)
+abbrev WriteCode : Verdict → Type 0
+WriteCode v = (codeOf v ≡ 0) ⊎ (codeOf v ≡ 12)
 
 -- they do
-does-write : (v : Verdict) → Writes v → writes v ≡ true
+does-write : (v : Verdict) → WriteCode v → writes v ≡ true
 unfolding writes
 does-write v (inl e) = rw (eq-eqb (codeOf v) 0 e)
 does-write v (inr e) = rw e
@@ -93,9 +94,9 @@ unfolding writes
 keeps v a b = rw (ne-eqb (codeOf v) 0 a, ne-eqb (codeOf v) 12 b)
 
 -- a refused file has neither
-refused-not : (v : Verdict) → ReadingCode v → Writes v → ⊥
-refused-not v c (inl e) = omega (arith, c .0)
-refused-not v c (inr e) = omega (arith, c .1)
+refused-not : (v : Verdict) → RefusedReading v → WriteCode v → ⊥
+refused-not v c (inl e) = refused-not-0 v c e
+refused-not v c (inr e) = refused-not-12 v c e
 
 module _ (v : Verdict) (rows : List Task) (room : List ℕ) (r : Analysed) (room′ : List ℕ) (g : Gives v rows room r room′) where
   -- the verdict is what is said
@@ -124,14 +125,14 @@ module _ (s : List ℕ) (core : ℕ) (room : List ℕ) (r : Analysed) (room′ :
   v = fileSaid (decode s) core (length room)
 
   -- a core with code 0 or 12
-  core-written : Writes v → (tasks : List Task) × GoodFile s tasks × Bounds (onCore core tasks) room r room′
+  core-written : WriteCode v → (tasks : List Task) × GoodFile s tasks × Bounds (onCore core tasks) room r room′
   unfolding v fileSaid fileRows
   core-written w =
       ⊎-elim (λ f. absurd (refused-not (f .0) (f .1 .code) (rw (f .1 .said) at w)))
       (λ g.
       (let rows = onCore core (g .tasks) in
       let u = coreSaid core rows (length room) in
-      let w′ : Writes u = rw (good-said s core (length room) (g .file)) at w in
+      let w′ : WriteCode u = rw (good-said s core (length room) (g .file)) at w in
       let a′ : Gives u rows room r room′ = rw (good-read (g .file)) at a in
       let rule = said-rule core rows (length room) (core-good core (g .file) .distinct) in
       let fits = written-code core rows (length room) rule w′ .0 .fits in
@@ -149,5 +150,5 @@ module _ (s : List ℕ) (core : ℕ) (room : List ℕ) (r : Analysed) (room′ :
           λ q. e ∙ rule-analysis s core (length room) q,
         );
         kept = λ p q. stays v _ room r room′ a (keeps v (λ z. p (ap codeOf e ∙ z)) (λ z. q (ap codeOf e ∙ z)));
-        written = λ w. core-written (subst Writes e w);
+        written = λ w. core-written (subst WriteCode e w);
       }

@@ -19,6 +19,7 @@ use Rattle.table.specs.declared.Verdict.{Verdict}
 use Rattle.table.specs.declared.Verdict.the-variants as C
 use Rattle.table.specs.Verdicts.{codeOf, good, _orElse_}
 use Rattle.table.specs.Clash.{coopAbove, breaks, clashAfter, clash, ruleVerdict, broken, clashOf}
+use Rattle.table.proofs.ReadingCodes.{RefusedReading}
 use Rattle.demands.specs.Rules.{CooperativeAbove, Breaks, Clashes, First, None, ClashRule}
 
 -- ---- the tests are the words
@@ -221,8 +222,9 @@ module _ (rows : List Row) where
   clashes-rule = let r = some-rule in subst (ClashRule rows) (sym (rule-clashes (r .1))) (r .1)
 
   -- these are the codes 4, 5 and 6, or there is no clash
-  pub clash-code : {v : Verdict} → ClashRule rows v → (v ≡ C.Good) ⊎ ((0 < codeOf v) × (codeOf v < 9))
-  clash-code (ClashRule.id f) = inr (omega arith)
-  clash-code (ClashRule.priority a f) = inr (omega arith)
-  clash-code (ClashRule.kinds a b f) = inr (omega arith)
+  pub clash-code : {v : Verdict} → ClashRule rows v → (v ≡ C.Good) ⊎ RefusedReading v
+  unfolding good
+  clash-code (ClashRule.id f) = inr (record { fault = refl; read = refl })
+  clash-code (ClashRule.priority a f) = inr (record { fault = refl; read = refl })
+  clash-code (ClashRule.kinds a b f) = inr (record { fault = refl; read = refl })
   clash-code (ClashRule.none a b c) = inl refl

@@ -2,7 +2,7 @@
 use Prim.Native.Nat.{ℕ, _<_}
 use native.Mathlib.Omega.{arith}
 use borrow.Author.Tests.{lt-ltb, le-ltb}
-use mathlib.Core.Path.{_≡_, ap, subst, _∙_}
+use mathlib.Core.Path.{_≡_, refl, ap, subst, _∙_}
 use mathlib.Core.Logic.{_⊎_, inl, inr, ⊎-elim}
 use mathlib.Core.List.{List, map}
 use lib.ListN.{length}
@@ -13,6 +13,7 @@ use Rattle.table.specs.declared.Verdict.the-variants as C
 use Rattle.table.specs.Verdicts.{codeOf, good}
 use Rattle.table.specs.Fields.{Wanted}
 use Rattle.table.specs.Memory.{rowOf}
+use Rattle.table.proofs.ReadingCodes.{RefusedReading, refused-not-0}
 use Rattle.table.proofs.Codes.{is-fault}
 use Rattle.fields.specs.Stepping.{stop, go, _then_, unless}
 use Rattle.files.specs.Reading.{rowsAt, endAt, decode}
@@ -23,19 +24,15 @@ use Rattle.demands.proofs.Reached.{rows-read, wants-read, reached}
 use Rattle.demands.proofs.NumberRule.{rule-refuses, refused-rule, number-code}
 use Rattle.demands.proofs.ClashRule.{rule-clashes, clashes-rule, clash-code}
 
--- a code of reading: it is none of 0 and 12, and its verdict is not good
-abbrev pub ReadingCode : Verdict → Type 0
-ReadingCode v = (0 < codeOf v) × (codeOf v < 9)
-
--- it is not that of a good file
-pub reading-fault : {v : Verdict} → ReadingCode v → v ≡ C.Good → ⊥
-reading-fault c e = omega (arith, c .0, ap codeOf e)
+-- a refused reading is not a good file
+pub reading-fault : {v : Verdict} → RefusedReading v → v ≡ C.Good → ⊥
+reading-fault {v} c e = refused-not-0 v c (ap codeOf e)
 
 -- a file that is refused, with its verdict
 pub record Refused (s : List ℕ) (v : Verdict) : Type 0 where
   pub said : decode s ≡ stop v
   pub rule : FileRule s v
-  pub code : ReadingCode v
+  pub code : RefusedReading v
 
 -- or a good one
 pub record Read (s : List ℕ) : Type 0 where
@@ -50,9 +47,13 @@ module _ {s : List ℕ} where
 
   -- bytes behind them are refused
   rest-refused : {tasks : List Task} {at : ℕ} → Rows s 0 tasks at → at < length s → Refused s (C.Trailing at)
-  unfolding endAt
+  unfolding endAt good
   rest-refused {at = at} r h =
-      record { said = end-read r ∙ rw (lt-ltb at (length s) h); rule = FileRule.rest r h; code = omega arith }
+      record {
+        said = end-read r ∙ rw (lt-ltb at (length s) h);
+        rule = FileRule.rest r h;
+        code = record { fault = refl; read = refl };
+      }
 
   -- a wanted number is refused by its rule
   number-refused : {at : ℕ} {w : Wanted} {v : Verdict} → Wants s at w → NumberRule s w at v → Refused s v
@@ -77,7 +78,7 @@ module _ {s : List ℕ} where
       (λ c.
       inr
       (record {
-        said = whole-read w r ∙ rw (is-fault v (λ e. omega (arith, c .0)));
+        said = whole-read w r ∙ rw (c .fault);
         rule = FileRule.table w r;
         code = c;
       }))

@@ -17,6 +17,7 @@ use Rattle.table.specs.Verdicts.{codeOf, good}
 use Rattle.table.specs.Fields.{Wanted, judge}
 use Rattle.fields.specs.Stepping.{stop, unless, asked, fieldAt}
 use Rattle.fields.proofs.Taken.{stopped-not}
+use Rattle.table.proofs.ReadingCodes.{RefusedReading}
 use Rattle.demands.specs.Rules.{NumberRule}
 use Rattle.demands.proofs.Bytes.{cut-off, ill-formed}
 use Rattle.demands.proofs.Reached.{stands-read}
@@ -81,8 +82,9 @@ module _ (s : List ℕ) (w : Wanted) (at : ℕ) where
           (in-range w x)
 
   -- these are the codes 1, 2, 3 and 7
-  pub number-code : {v : Verdict} → NumberRule s w at v → (0 < codeOf v) × (codeOf v < 9)
-  number-code (NumberRule.cut c) = omega arith
-  number-code (NumberRule.ill i) = omega arith
-  number-code (NumberRule.out e h) = omega arith
-  number-code (NumberRule.over e r h) = omega arith
+  pub number-code : {v : Verdict} → NumberRule s w at v → RefusedReading v
+  unfolding good
+  number-code (NumberRule.cut c) = record { fault = refl; read = refl }
+  number-code (NumberRule.ill i) = record { fault = refl; read = refl }
+  number-code (NumberRule.out e h) = record { fault = refl; read = refl }
+  number-code (NumberRule.over e r h) = record { fault = refl; read = refl }

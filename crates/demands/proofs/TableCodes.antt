@@ -17,6 +17,7 @@ use Rattle.table.specs.declared.Verdict.the-variants as C
 use Rattle.table.specs.Verdicts.{codeOf, good, _orElse_}
 use Rattle.table.specs.Memory.{tasksOf}
 use Rattle.table.specs.Faults.{faultOf}
+use Rattle.table.proofs.ReadingCodes.{RefusedReading, refused-not-0, refused-not-12}
 use Rattle.table.proofs.Codes.{is-good, is-fault, or-good}
 use Rattle.table.proofs.GoodTasks.{tasks-good}
 use Rattle.table.proofs.GoodCore.{good-core}
@@ -30,27 +31,27 @@ use Rattle.analysis.specs.Analysis.{fileSaid, fileRows, tableSaid, AnalysesTabl
 use Rattle.demands.specs.Tables.{TableRule, WriteRule, MemoryRule, WriteSays, AsFile, Tables}
 use Rattle.demands.proofs.CoreRule.{rule-said, said-rule}
 use Rattle.demands.proofs.Answer.{keeps, said, stays}
-use Rattle.demands.proofs.FileRule.{ReadingCode, reading-fault, read-good}
+use Rattle.demands.proofs.FileRule.{reading-fault, read-good}
 use Rattle.demands.proofs.Tables.{fault-first, rule-fault, fault-rule, table-code}
 
 -- what comes after a table's own faults
 module _ (t : Table) (next : Verdict) where
   -- a fault is said
   fault-said : {v : Verdict} → TableRule t v → (v ≡ C.Good → ⊥) → faultOf t orElse next ≡ v
-  fault-said {v} r n = rw (rule-fault t r) (⊎-elim (λ e. absurd (n e)) (λ c. fault-first v next (λ e. omega (arith, c .0))) (table-code t r))
+  fault-said {v} r n = rw (rule-fault t r) (⊎-elim (λ e. absurd (n e)) (λ c. fault-first v next (refused-not-0 v c)) (table-code t r))
 
   -- without one the next decides
   next-said : TableRule t C.Good → faultOf t orElse next ≡ next
   next-said r = or-good (faultOf t) next (ap codeOf (rule-fault t r))
 
 -- a table has a fault
-record AtFault (t : Table) : Type 0 where
+record FaultyTable (t : Table) : Type 0 where
   v : Verdict
   rule : TableRule t v
-  code : ReadingCode v
+  code : RefusedReading v
 
 -- or is good
-fault-or-good : (t : Table) → AtFault t ⊎ TableRule t C.Good
+fault-or-good : (t : Table) → FaultyTable t ⊎ TableRule t C.Good
 fault-or-good t =
     ⊎-elim (λ e. inr (subst (TableRule t) e (fault-rule t))) (λ c. inl (record { v = faultOf t; rule = fault-rule t; code = c }))
     (table-code t (fault-rule t))
@@ -139,7 +140,7 @@ fault-keeps t core room r room′ a n =
     (λ f.
     (let v = tableSaid t core (length room) in
     let e : v ≡ f .v = fault-said t _ (f .rule) (reading-fault (f .code)) in
-    stays v _ room r room′ a (keeps v (λ z. omega (arith, f .code .0, ap codeOf e)) (λ z. omega (arith, f .code .1, ap codeOf e)))))
+    stays v _ room r room′ a (keeps v (λ z. refused-not-0 (f .v) (f .code) (ap codeOf (sym e) ∙ z)) (λ z. refused-not-12 (f .v) (f .code) (ap codeOf (sym e) ∙ z)))))
     (λ g. absurd (n g)) (fault-or-good t)
 
 -- a good table is analysed as its file

@@ -15,12 +15,12 @@ use Rattle.table.specs.Verdicts.{codeOf, good, _orElse_}
 use Rattle.table.specs.Fields.{Wanted, head, fieldsOf, judge, faultIn}
 use Rattle.table.specs.Memory.{usedRows}
 use Rattle.table.specs.Faults.{rowFault, rowsFault, faultOf}
+use Rattle.table.proofs.ReadingCodes.{RefusedReading}
 use Rattle.table.proofs.Codes.{or-good, is-fault}
 use Rattle.table.proofs.Fine.{fine-good}
 use Rattle.demands.specs.Reached.{MayBe}
 use Rattle.demands.specs.Tables.{rowWants, rowHas, InRow, RowFine, InRows, InTable, TableRule}
 use Rattle.demands.proofs.NumberRule.{out-judged, over-judged, in-range}
-use Rattle.demands.proofs.FileRule.{ReadingCode}
 use Rattle.demands.proofs.ClashRule.{rule-clashes, clashes-rule, clash-code}
 
 -- ---- one number
@@ -189,8 +189,9 @@ module _ (t : Table) where
   fault-rule = let r = some-rule in subst (TableRule t) (sym (rule-fault (r .1))) (r .1)
 
   -- these are the codes 3, 7, 4, 5 and 6, or the table is good
-  pub table-code : {v : Verdict} → TableRule t v → (v ≡ C.Good) ⊎ ReadingCode v
-  table-code (TableRule.count h) = inr (omega arith)
-  table-code (TableRule.out h a o) = inr (omega arith)
-  table-code (TableRule.tooMany h a r o) = inr (omega arith)
+  pub table-code : {v : Verdict} → TableRule t v → (v ≡ C.Good) ⊎ RefusedReading v
+  unfolding good
+  table-code (TableRule.count h) = inr (record { fault = refl; read = refl })
+  table-code (TableRule.out h a o) = inr (record { fault = refl; read = refl })
+  table-code (TableRule.tooMany h a r o) = inr (record { fault = refl; read = refl })
   table-code (TableRule.rows h f c) = clash-code (usedRows t) c

@@ -10,12 +10,12 @@ use Rattle.numbers.specs.declared.Number.the-variants as N
 use Rattle.table.specs.declared.Verdict.{Verdict}
 use Rattle.table.specs.Verdicts.{good, reading}
 use Rattle.table.specs.Fields.{Wanted, judge}
-use Rattle.table.proofs.ReadingCodes.{judge-reading}
+use Rattle.table.proofs.ReadingCodes.{judge-reading, RefusedReading}
 use Rattle.fields.specs.Stepping.{Step, stop, go, _then_, unless, asked, fieldAt, fieldsAt}
 
 -- a step that, if it stops, does so at a fault, with a verdict of reading
 unfoldable pub AtFault : {A : Type 0} → Step A → Type 0
-AtFault (stop v) = (good v ≡ false) × (reading v ≡ true)
+AtFault (stop v) = RefusedReading v
 AtFault (go a n) = Unit {0}
 
 module _ {A : Type 0} where
@@ -33,7 +33,7 @@ module _ {A : Type 0} where
   -- unless the verdict is good
   pub unless-stops : (v : Verdict) (a : A) (n : ℕ) → reading v ≡ true → AtFault (unless v a n)
   unfolding unless AtFault
-  unless-stops v a n read = by-test (good v) (λ t. rw t tt) (λ f. rw f (f, read))
+  unless-stops v a n read = by-test (good v) (λ t. rw t tt) (λ f. rw f (record { fault = f; read = read }))
 
 -- a number
 pub field-stops : (w : Wanted) (s : List ℕ) (at : ℕ) → AtFault (fieldAt w s at)
@@ -42,8 +42,8 @@ field-stops w s at = of-number (numberAt s at)
   where
     of-number : (x : Number) → AtFault (asked w s at x)
     of-number (N.Got v n) = unfold asked in unless-stops (judge w at v) v n (judge-reading w at v)
-    of-number N.EndsEarly = unfold asked AtFault good in (refl, refl)
-    of-number N.Malformed = unfold asked AtFault good in (refl, refl)
+    of-number N.EndsEarly = unfold asked AtFault good in record { fault = refl; read = refl }
+    of-number N.Malformed = unfold asked AtFault good in record { fault = refl; read = refl }
 
 -- numbers one after another
 pub fields-stop : (ws : List Wanted) (done s : List ℕ) (at : ℕ) → AtFault (fieldsAt ws done s at)

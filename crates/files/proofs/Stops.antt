@@ -6,15 +6,14 @@ use mathlib.Core.List.{List, [], _∷_, _++_}
 use lib.ListN.{length, replicate}
 use lib.Dec.{ltb}
 use Rattle.lists.specs.Lists.{pick}
-use Rattle.lists.proofs.Tests.{never}
 use Rattle.model.specs.Task.{Task}
 use Rattle.table.specs.declared.Verdict.{Verdict}
 use Rattle.table.specs.declared.Verdict.the-variants.{Good, Trailing}
-use Rattle.table.specs.Verdicts.{good, reading}
+use Rattle.table.specs.Verdicts.{codeOf, good}
 use Rattle.table.specs.Fields.{field, head, time, rowFrom}
 use Rattle.table.specs.Memory.{taskOf, allTimes, rowsOf}
 use Rattle.table.specs.Clash.{clashOf}
-use Rattle.table.proofs.ReadingCodes.{clash-reading}
+use Rattle.table.proofs.ReadingCodes.{clash-reading, RefusedReading, refused-not-0}
 use Rattle.fields.specs.Stepping.{Step, stop, go, unless, fieldAt, fieldsAt}
 use Rattle.fields.proofs.Stops.{AtFault, go-stops, then-stops, unless-stops, field-stops, fields-stop}
 use Rattle.files.specs.Reading.{rowAt, rowsAt, endAt, decode, loaded, readAnswer}
@@ -40,7 +39,7 @@ unfolding endAt
 end-stops s ts at = of-test (ltb at (length s))
   where
     of-test : (b : Bool) → AtFault (pick b (stop (Trailing at)) (unless (clashOf (rowsOf ts)) ts at))
-    of-test true = unfold AtFault good in (refl, refl)
+    of-test true = unfold AtFault good in record { fault = refl; read = refl }
     of-test false = unless-stops (clashOf (rowsOf ts)) ts at (clash-reading (rowsOf ts))
 
 -- the whole file
@@ -51,7 +50,7 @@ file-stops s =
     (λ count at. then-stops (rowsAt count [] s at) _ (rows-stop count [] s at) (λ ts n. end-stops s ts n))
 
 -- a refused read has a verdict of reading, which is not good
-pub stop-fault : (s : List ℕ) (v : Verdict) → decode s ≡ stop v → (good v ≡ false) × (reading v ≡ true)
+pub stop-fault : (s : List ℕ) (v : Verdict) → decode s ≡ stop v → RefusedReading v
 unfolding AtFault
 stop-fault s v e = subst AtFault e (file-stops s)
 
@@ -67,7 +66,5 @@ unfolding readAnswer AtFault
 good-tasks s e = of-step (decode s) refl (file-stops s) e
   where
     of-step : (x : Step (List Task)) → decode s ≡ x → AtFault x → loaded x .verdict ≡ Good → Tasks s
-    of-step (stop v) p h q =
-        let fine : good v ≡ true = ap good q ∙ unfold good in refl in
-        absurd (never fine (h .0))
+    of-step (stop v) p h q = absurd (refused-not-0 v h (ap codeOf q))
     of-step (go ts n) p h q = record { tasks = ts; next = n; same = p }

@@ -10,14 +10,14 @@ use lib.Dec.{eqb}
 use Rattle.lists.specs.Lists.{pick, _∈_}
 use Rattle.lists.proofs.Overs.{take-over, over-length}
 use Rattle.lists.proofs.PadStores.{pad-length}
-use Rattle.lists.proofs.Tests.{never, either}
+use Rattle.lists.proofs.Tests.{either}
 use Rattle.model.specs.Task.{Task}
 use Rattle.model.specs.Rows.{GoodTask}
 use Rattle.table.specs.declared.Verdict.the-variants.{Good}
 use Rattle.table.specs.Verdicts.{codeOf}
 use Rattle.table.specs.Memory.{zeroRow, rowOf, allTimes, stored, tasksOf}
 use Rattle.table.specs.Faults.{faultOf}
-use Rattle.table.proofs.Codes.{is-good}
+use Rattle.table.proofs.ReadingCodes.{refused-not-0}
 use Rattle.table.proofs.Stored.{tasks-stored}
 use Rattle.table.proofs.GoodTasks.{GoodTasks, times-fit, stored-good}
 use Rattle.table.proofs.EachGood.{each-good}
@@ -46,7 +46,7 @@ unfolding sheetText readAnswer textOf textFrom
 text-from s = of-step (decode s) refl
   where
     of-step : (x : Step (List Task)) → decode s ≡ x → textOf (decode s) ≡ textFrom (loaded (decode s))
-    of-step (stop v) q = rw (q, ne-eqb (codeOf v) 0 (λ z. never (is-good v z) (stop-fault s v q .0)))
+    of-step (stop v) q = rw (q, ne-eqb (codeOf v) 0 (refused-not-0 v (stop-fault s v q)))
     of-step (go ts n) q = rw (q, tasks-stored ts)
 
 module _ (s : List ℕ) (l : Loaded) (e : l ≡ readAnswer s) where
@@ -68,7 +68,7 @@ module _ (s : List ℕ) (l : Loaded) (e : l ≡ readAnswer s) where
       of-step : (x : Step (List Task)) → decode s ≡ x → codeOf (faultOf (l .table)) ≡ 0
       of-step (stop v) q =
           let own : l .verdict ≡ v = ap (λ (x : Loaded). x .verdict) (e ∙ ap loaded q) in
-          absurd (never (is-good v (sym (ap codeOf own) ∙ z)) (stop-fault s v q .0))
+          absurd (refused-not-0 v (stop-fault s v q) (sym (ap codeOf own) ∙ z))
       of-step (go ts n) q = ap (λ (x : Loaded). codeOf (faultOf (x .table))) (e ∙ ap loaded q) ∙ stored-good ts (file-back s ts n q .good)
 
 -- a longer file is read as its first 5,124 bytes are, so it prints the same

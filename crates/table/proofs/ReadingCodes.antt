@@ -3,20 +3,24 @@ use Prim.Native.Nat.{ℕ, suc, _+_}
 use mathlib.Core.Path.{_≡_, refl}
 use mathlib.Core.Bool.{Bool, true, false, _||_}
 use mathlib.Core.List.{List, [], _∷_}
+use native.Mathlib.Omega.{arith}
 use lib.ListN.{length, drop, replicate}
 use lib.Dec.{ltb}
 use Rattle.lists.specs.Lists.{pick}
+use Rattle.lists.proofs.Tests.{never}
 use Rattle.table.specs.declared.Row.{Row}
 use Rattle.table.specs.declared.Rule.{Rule}
 use Rattle.table.specs.declared.Rule.the-variants as R
 use Rattle.table.specs.declared.Table.{Table}
 use Rattle.table.specs.declared.Verdict.{Verdict}
-use Rattle.table.specs.declared.Verdict.the-variants.{Good, OutOfRange, TooManyTimes}
-use Rattle.table.specs.Verdicts.{good, reading, _orElse_}
+use Rattle.table.specs.declared.Verdict.the-variants.{Good, EndsEarly, Malformed, OutOfRange, IdTwice, PriorityTwice}
+use Rattle.table.specs.declared.Verdict.the-variants.{KindsCrossed, TooManyTimes, Trailing, NoSuchCore, NoRoom, NoWindow, Missed}
+use Rattle.table.specs.Verdicts.{codeOf, good, reading, _orElse_}
 use Rattle.table.specs.Fields.{Wanted, head, time, fieldsOf, judge, faultIn}
 use Rattle.table.specs.Memory.{usedRows}
 use Rattle.table.specs.Clash.{breaks, clash, ruleVerdict, broken, clashOf}
 use Rattle.table.specs.Faults.{rowFault, rowsFault, faultOf}
+use Rattle.table.proofs.Codes.{is-good}
 
 -- one of two
 pick-reading : (b : Bool) (v w : Verdict) → reading v ≡ true → reading w ≡ true → reading (pick b v w) ≡ true
@@ -73,3 +77,32 @@ unfolding faultOf
 fault-reading t =
     pick-reading (ltb 64 (t .count)) (OutOfRange 64) _ refl
     (or-reading _ _ (rows-reading 0 0 (usedRows t) (t .times)) (clash-reading (usedRows t)))
+
+-- ---- a verdict of reading that is no good one
+
+pub record RefusedReading (v : Verdict) : Type 0 where
+  pub fault : good v ≡ false
+  pub read : reading v ≡ true
+
+-- its code is not 0
+pub refused-not-0 : (v : Verdict) → RefusedReading v → codeOf v ≡ 0 → ⊥
+refused-not-0 v r e = never (is-good v e) (r .fault)
+
+-- nor 12
+pub refused-not-12 : (v : Verdict) → RefusedReading v → codeOf v ≡ 12 → ⊥
+refused-not-12 v r = by v (r .read)
+  where
+    by : (w : Verdict) → reading w ≡ true → codeOf w ≡ 12 → ⊥
+    by Good q e = omega arith
+    by (EndsEarly n) q e = omega arith
+    by (Malformed n) q e = omega arith
+    by (OutOfRange n) q e = omega arith
+    by (IdTwice n) q e = omega arith
+    by (PriorityTwice n) q e = omega arith
+    by (KindsCrossed n) q e = omega arith
+    by (TooManyTimes n) q e = omega arith
+    by (Trailing n) q e = omega arith
+    by (NoSuchCore n) q e = omega arith
+    by (NoRoom n) q e = omega arith
+    by (NoWindow n) q e = omega arith
+    by (Missed n) q e = never q refl
