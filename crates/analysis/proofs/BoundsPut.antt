@@ -1,15 +1,14 @@
 -- Going through a core's rows for their bounds: those of the rows seen stand in front, and the highest late row is known.
-use Prim.Native.Nat.{ℕ, suc, _+_, _-_, _≤_, _<_}
+use Prim.Native.Nat.{ℕ, _+_, _-_, _≤_, _<_}
 use native.Mathlib.Nat.{add-zero}
 use native.Mathlib.Omega.{arith}
 use borrow.Author.Tests.{le-leb, lt-leb}
 use mathlib.Core.Path.{_≡_, refl, sym, ap, subst, _∙_}
-use mathlib.Core.Bool.{true, false, not}
-use mathlib.Core.List.{List, [], _∷_, _++_, map, append-nil}
+use mathlib.Core.List.{List, [], _∷_, _++_, append-nil}
 use lib.ListN.{length, getD, take, drop, length-append, length-map, length-take}
-use lib.Dec.{ltb, leb}
+use lib.Dec.{ltb}
 use lib.Seq.{append-snoc, getD-take}
-use Rattle.lists.specs.Lists.{_∈_, pick, Place, each, over, total}
+use Rattle.lists.specs.Lists.{pick, Place, each, over, total}
 use Rattle.lists.proofs.Places.{place-in, place-map, place-below}
 use Rattle.lists.proofs.EachPlaces.{place-right}
 use Rattle.lists.proofs.Each.{each-append, each-snoc, each-length}
@@ -22,11 +21,10 @@ use Rattle.model.specs.Least.{value}
 use Rattle.model.specs.Bounds.{window, bound, rowBounds, meetsDeadline, highest, idOf}
 use Rattle.table.specs.declared.Row.{Row}
 use Rattle.table.specs.declared.Table.{Table}
-use Rattle.table.specs.Memory.{zeroRow, rowOf, stored, tasksOf}
+use Rattle.table.specs.Memory.{zeroRow, stored, tasksOf}
 use Rattle.table.proofs.Ahead.{Ahead, lent, Next, next, none-ahead, stored-ahead}
 use Rattle.cores.specs.declared.Core.{Core}
 use Rattle.cores.specs.Cores.{tasksIn}
-use Rattle.cores.specs.Promises.{IsCore}
 use Rattle.table.proofs.Stored.{times-count}
 use Rattle.analysis.specs.declared.Top.{Top}
 use Rattle.analysis.specs.Analysis.{coreBounds}

@@ -3,7 +3,6 @@ pub mod Given
 pub mod Tops
 pub mod Lengths
 pub mod Cored
-pub mod Fronts
 pub mod Sought
 pub mod BoundsPut
 pub mod Tabled

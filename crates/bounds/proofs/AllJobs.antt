@@ -1,17 +1,15 @@
 -- A row, job by job: each job stands where the one before it ended, and after the last the bounds are document 01's.
 use Prim.Native.Nat.{ℕ, zero, suc, _+_, _*_, _≤_, _<_, max}
-use mathlib.Core.Path.{_≡_, refl, sym, ap, ap₂, _∙_}
-use mathlib.Core.List.{List, _∷_}
+use mathlib.Core.Path.{_≡_, sym, ap, ap₂, _∙_}
+use mathlib.Core.List.{List}
 use native.Mathlib.Nat.{zero-mul, suc-mul}
 use native.Mathlib.Omega.{arith}
 use lib.ListN.{length, getD, drop, getD-replicate, length-replicate}
-use Rattle.lists.specs.Lists.{_∈_, keep, each, listed}
+use Rattle.lists.specs.Lists.{each, listed}
 use Rattle.lists.proofs.Listed.{listed-is, listed-at, listed-length}
-use Rattle.model.specs.declared.Found.the-variants.{At}
-use Rattle.model.specs.Task.{Task, cost, parts}
-use Rattle.model.specs.Rows.{GoodCore}
+use Rattle.model.specs.Task.{cost, parts}
 use Rattle.model.specs.Least.{value, maxBelow}
-use Rattle.model.specs.Bounds.{up, preemptive, cooperative, before, higher, blocking, window, jobs, response, bound, rowBounds}
+use Rattle.model.specs.Bounds.{up, cooperative, before, higher, blocking, window, jobs, response, bound, rowBounds}
 use Rattle.model.proofs.Rounding.{before-is, before-more, before-least}
 use Rattle.model.proofs.Rows.{period-pos}
 use Rattle.model.proofs.Exists.{window-most, inside}
@@ -155,28 +153,3 @@ module _ {own-first preempts : List ℕ} {own : Own} {times : List ℕ} (g : Own
     where
       all : up (own .window) (getD own-first 0 0) ≡ jobs rows t
       all = count-is ∙ ap (λ f. before t (value f)) (sym (g .windowed))
-
--- a row of a core with its window: what `row_bounds` asks for
-abbrev pub own-row : (rows : List Task) → GoodCore rows → (t : Task) → t ∈ rows → (L : ℕ) → window rows t ≡ At L
-    → OwnRow (loads (t ∷ higher rows t)) (loads (keep preemptive rows))
-    (record { cooperative = cooperative t; blocking = blocking rows t; window = L }) (t .times)
-own-row rows core t m L w =
-    record {
-      rows = rows;
-      t = t;
-      core = core;
-      row = m;
-      loaded = refl;
-      preemptive-is = refl;
-      kind = refl;
-      blocks = refl;
-      windowed = w;
-      timed = refl;
-    }
-
--- and what it leaves are document 01's bounds
-pub bounds-are : (rows : List Task) → GoodCore rows → (t : Task) → t ∈ rows → (L : ℕ) → window rows t ≡ At L
-    → boundsIn (loads (t ∷ higher rows t)) (loads (keep preemptive rows))
-    (record { cooperative = cooperative t; blocking = blocking rows t; window = L }) (t .times)
-    ≡ rowBounds rows t
-bounds-are rows core t m L w = bounds-own (own-row rows core t m L w)

@@ -1,3 +1,4 @@
 pub mod Wanted
 pub mod AskedRows
 pub mod GoodCores
+pub mod Fronts

@@ -17,7 +17,7 @@ use Rattle.table.specs.declared.Rule.{Rule}
 use Rattle.table.specs.declared.Rule.the-variants as R
 use Rattle.table.specs.declared.Verdict.{Verdict}
 use Rattle.table.specs.declared.Verdict.the-variants as C
-use Rattle.table.specs.Verdicts.{codeOf, good, _orElse_}
+use Rattle.table.specs.Verdicts.{good, _orElse_}
 use Rattle.table.specs.Clash.{coopAbove, breaks, clashAfter, clash, ruleVerdict, broken, clashOf}
 use Rattle.table.proofs.ReadingCodes.{RefusedReading}
 use Rattle.demands.specs.Rules.{CooperativeAbove, Breaks, Clashes, First, None, ClashRule}

@@ -4,7 +4,7 @@ use native.Mathlib.Omega.{arith}
 use mathlib.Core.Path.{_≡_, ap}
 use mathlib.Core.Logic.{_⊎_, _↔_}
 use mathlib.Core.List.{List}
-use lib.ListN.{length, drop}
+use lib.ListN.{length}
 use Rattle.lists.specs.Lists.{_∈_}
 use Rattle.lists.proofs.Places.{place-in}
 use Rattle.model.specs.declared.Found.the-variants.{At}
@@ -16,7 +16,7 @@ use Rattle.table.specs.declared.Verdict.the-variants as C
 use Rattle.table.specs.Verdicts.{codeOf}
 use Rattle.files.proofs.RoundTrips.{written-is-read, read-is-written}
 use Rattle.analysis.specs.declared.Analysed.{Analysed}
-use Rattle.analysis.specs.Analysis.{needed, coreSaid, Gives, fileSaid, fileRows, Analyses}
+use Rattle.analysis.specs.Analysis.{coreSaid, Gives, fileSaid, fileRows, Analyses}
 use Rattle.demands.specs.Rules.{GoodFile, RoomFor, CoreRule, AnalysisRule}
 use Rattle.demands.specs.Equations.{Meets}
 use Rattle.demands.specs.Demand2.{LeavesBounds, Isolated, Demand2}

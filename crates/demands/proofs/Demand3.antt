@@ -1,11 +1,9 @@
 -- Demand 3 holds for what the program leaves. From demand 1 and the machine's theorem.
 use mathlib.Core.Logic.{inl}
-use lib.ListN.{drop}
 use Rattle.lists.proofs.Places.{place-in}
 use Rattle.model.specs.Bounds.{onCore, bound}
 use Rattle.machine.specs.NoRunIsLater.{NeverLater, NoRunIsLater}
 use Rattle.machine.proofs.NoRunIsLater.{no-run-is-later}
-use Rattle.analysis.specs.Analysis.{needed}
 use Rattle.demands.specs.Demand3.{Demand3}
 use Rattle.demands.proofs.GoodFile.{core-good}
 use Rattle.demands.proofs.Passed.{core-passes, bounds-left}

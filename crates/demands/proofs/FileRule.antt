@@ -1,6 +1,5 @@
 -- A file is refused exactly when a rule of reading says so, and else its tasks are read. Assumes nothing.
 use Prim.Native.Nat.{ℕ, _<_}
-use native.Mathlib.Omega.{arith}
 use borrow.Author.Tests.{lt-ltb, le-ltb}
 use mathlib.Core.Path.{_≡_, refl, ap, subst, _∙_}
 use mathlib.Core.Logic.{_⊎_, inl, inr, ⊎-elim}
@@ -14,7 +13,6 @@ use Rattle.table.specs.Verdicts.{codeOf, good}
 use Rattle.table.specs.Fields.{Wanted}
 use Rattle.table.specs.Memory.{rowOf}
 use Rattle.table.proofs.ReadingCodes.{RefusedReading, refused-not-0}
-use Rattle.table.proofs.Codes.{is-fault}
 use Rattle.fields.specs.Stepping.{stop, go, _then_, unless}
 use Rattle.files.specs.Reading.{rowsAt, endAt, decode}
 use Rattle.fields.proofs.Taken.{stopped-not}

@@ -5,7 +5,7 @@ use borrow.Author.Tests.{ltb-true}
 use mathlib.Core.Path.{_≡_, refl, sym, ap}
 use mathlib.Core.Logic.{_⊎_, inl, inr, ⊎-elim}
 use mathlib.Core.List.{List, [], _∷_, _++_, map}
-use lib.ListN.{length, getD, replicate, length-append}
+use lib.ListN.{length, getD, replicate}
 use lib.Dec.{ltb}
 use Rattle.lists.specs.Lists.{each, total, Place}
 use Rattle.lists.proofs.Tests.{by-test, either}
@@ -19,7 +19,7 @@ use Rattle.table.specs.declared.Rule.the-variants as R
 use Rattle.table.specs.declared.Verdict.{Verdict}
 use Rattle.table.specs.Verdicts.{codeOf}
 use Rattle.table.specs.Fields.{field, partCount, head, time}
-use Rattle.table.specs.Memory.{rowOf, allTimes}
+use Rattle.table.specs.Memory.{rowOf}
 use Rattle.table.proofs.Stored.{times-count}
 use Rattle.table.proofs.Fine.{Fine, AllFine}
 use Rattle.table.proofs.GoodTasks.{FineTask, FineTasks, GoodTasks}

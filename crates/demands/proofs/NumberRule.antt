@@ -13,7 +13,7 @@ use Rattle.numbers.specs.declared.Number.the-variants as N
 use Rattle.model.specs.Rows.{Within}
 use Rattle.table.specs.declared.Verdict.{Verdict}
 use Rattle.table.specs.declared.Verdict.the-variants as C
-use Rattle.table.specs.Verdicts.{codeOf, good}
+use Rattle.table.specs.Verdicts.{good}
 use Rattle.table.specs.Fields.{Wanted, judge}
 use Rattle.fields.specs.Stepping.{stop, unless, asked, fieldAt}
 use Rattle.fields.proofs.Taken.{stopped-not}

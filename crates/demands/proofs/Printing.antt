@@ -1,15 +1,13 @@
 -- Printing answers and leaves what is said of it. Assumes nothing.
 use Prim.Native.Nat.{ℕ, _≤_, _<_}
-use mathlib.Core.Path.{_≡_, refl, sym, ap, _∙_}
+use mathlib.Core.Path.{refl, ap}
 use mathlib.Core.List.{List}
 use lib.ListN.{length}
 use Rattle.lists.specs.Lists.{over}
-use Rattle.table.specs.declared.Verdict.{Verdict}
-use Rattle.table.specs.declared.Verdict.the-variants.{Good, NoRoom}
+use Rattle.table.specs.declared.Verdict.the-variants.{Good}
 use Rattle.table.specs.declared.Written.{Written}
 use Rattle.table.proofs.Writes.{refuses-room, writes-all, answers-agree, bytes-agree}
 use Rattle.sheet.specs.Sheet.{sheetText, Prints}
-use Rattle.demands.specs.Codes.{Carries}
 use Rattle.demands.specs.Printing.{TooShort, InFull, Printing}
 
 module _ (s out : List ℕ) (r : Written) (out′ : List ℕ) (p : Prints s out r out′) where

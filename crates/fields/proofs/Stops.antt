@@ -1,7 +1,7 @@
 -- Reading numbers stops only at a fault, with a verdict of reading. Assumes nothing.
 use Prim.Native.Nat.{ℕ}
 use mathlib.Core.Path.{_≡_, refl}
-use mathlib.Core.Bool.{true, false}
+use mathlib.Core.Bool.{true}
 use mathlib.Core.List.{List, [], _∷_, _++_}
 use Rattle.lists.proofs.Tests.{by-test}
 use Rattle.numbers.specs.Numbers.{numberAt}

@@ -18,7 +18,7 @@ use Rattle.table.specs.Memory.{rowOf, taskOf, allTimes, rowsOf}
 use Rattle.table.specs.Clash.{clashOf}
 use Rattle.table.proofs.Seven.{all-length, seven}
 use Rattle.table.proofs.GoodTasks.{FineTask, FineTasks, GoodTasks}
-use Rattle.fields.specs.Stepping.{stop, go, _then_, fieldAt, fieldsAt}
+use Rattle.fields.specs.Stepping.{stop, go, fieldAt, fieldsAt}
 use Rattle.files.specs.Reading.{rowAt, rowsAt, endAt, decode}
 use Rattle.files.specs.Writing.{encodeFile}
 use Rattle.fields.proofs.Taken.{Between, joined, stopped-not, passed, then-read, Read, field-read, TakenAll, taken-all}

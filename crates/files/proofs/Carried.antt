@@ -21,7 +21,7 @@ use Rattle.table.specs.Fields.{field, head, time, rowFrom}
 use Rattle.table.specs.Memory.{taskOf, allTimes, rowsOf}
 use Rattle.table.specs.Clash.{clash, breaks, ruleVerdict, broken, clashOf}
 use Rattle.table.proofs.Stored.{rows-length}
-use Rattle.fields.specs.Stepping.{stop, _then_, unless, fieldAt, fieldsAt}
+use Rattle.fields.specs.Stepping.{stop, unless, fieldAt, fieldsAt}
 use Rattle.fields.proofs.Near.{Near, Any, go-near, then-near, unless-near, field-near, fields-near}
 use Rattle.files.specs.Reading.{rowAt, rowsAt, endAt, decode}
 

@@ -1,6 +1,6 @@
 -- How many jobs of a row a stretch of ticks can release: at most `before` its length. From releases a period apart.
 use Prim.Native.Nat.{ℕ, zero, suc, _+_, _*_, _≤_, _<_}
-use mathlib.Core.Logic.{_⊎_, ⊎-elim}
+use mathlib.Core.Logic.{⊎-elim}
 use native.Mathlib.Omega.{arith}
 use native.Mathlib.Nat.{add-suc, suc-mul}
 use Rattle.lists.specs.Lists.{_∈_}

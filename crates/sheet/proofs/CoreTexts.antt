@@ -8,7 +8,7 @@ use mathlib.Core.List.{List, [], _∷_, _++_, append-assoc}
 use lib.ListN.{length, take, drop}
 use lib.Seq.{take-at, drop-at}
 use lib.Dec.{eqb}
-use Rattle.lists.specs.Lists.{each, over, total, listed, upTo}
+use Rattle.lists.specs.Lists.{each, over, total, upTo}
 use Rattle.lists.proofs.Each.{each-same}
 use Rattle.lists.proofs.Listed.{listed-length, listed-at}
 use Rattle.lists.proofs.Counted.{counted-below}

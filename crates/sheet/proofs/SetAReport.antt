@@ -9,7 +9,6 @@ use Rattle.model.specs.Bounds as bounds
 use Rattle.model.specs.BoundSamples.{setA}
 use Rattle.table.specs.Verdicts.{good, _orElse_}
 use Rattle.table.specs.Fields.{head, judge}
-use Rattle.table.specs.Memory.{allTimes}
 use Rattle.table.specs.Clash as clash
 use Rattle.fields.specs.Stepping as stepping
 use Rattle.files.specs.Reading as reading

@@ -1,15 +1,13 @@
 -- Laws of writing into lent room: what a good and a refused writing are, how code comes to each, and that nothing else is allowed.
 -- Assumes nothing.
 use Prim.Native.Nat.{ℕ, _≤_, _<_}
-use native.Mathlib.Omega.{arith}
-use borrow.Author.Tests.{lt-ltb, le-ltb, ltb-false}
+use borrow.Author.Tests.{lt-ltb, le-ltb}
 use mathlib.Core.Path.{_≡_, refl, sym, ap, _∙_}
 use mathlib.Core.Bool.{false}
 use mathlib.Core.List.{List}
 use lib.ListN.{length}
 use lib.Dec.{ltb}
 use Rattle.lists.specs.Lists.{pick, over}
-use Rattle.lists.proofs.Tests.{by-test}
 use Rattle.table.specs.declared.Verdict.{Verdict}
 use Rattle.table.specs.declared.Verdict.the-variants.{Good, NoRoom}
 use Rattle.table.specs.declared.Written.{Written}
@@ -75,24 +73,6 @@ module _ (fault : Verdict) (new out : List ℕ) where
     pub wrote-bytes : r .verdict ≡ Good → out′ ≡ over new out
     unfolding bytesLeft good
     wrote-bytes e = w .bytes ∙ rw (verdict-said ∙ e)
-
-    -- within the room
-    pub wrote-fits : r .verdict ≡ Good → length new ≤ length out
-    wrote-fits e =
-        by-test (ltb (length out) (length new))
-        (λ t. absurd (let none : NoRoom (length new) ≡ Good = rw t at (sym (by-room (wrote-fine e) (length out)) ∙ verdict-said ∙ e) in
-        let z : _≡_ {A = ℕ} 0 1 = cc in omega arith))
-        (λ f. ltb-false (length out) (length new) f)
-
-    -- a refused writing: no byte is counted
-    pub none-count : good (r .verdict) ≡ false → r .count ≡ 0
-    unfolding answerOn
-    none-count f = ap (λ (x : Written). x .count) (w .answer) ∙ rw (verdict-said, f)
-
-    -- and none is changed
-    pub none-bytes : good (r .verdict) ≡ false → out′ ≡ out
-    unfolding bytesLeft
-    none-bytes f = w .bytes ∙ rw (verdict-said, f)
 
     -- ---- nothing else is allowed
 

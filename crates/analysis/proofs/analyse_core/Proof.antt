@@ -1,6 +1,5 @@
 -- `analysis::analyse_core` meets its contract: 10, then 11 with nothing written, then what the bounds say. Assumes nothing.
 use Prim.Native.Nat.{ℕ, _≤_, _<_}
-use native.Mathlib.Nat.{le-refl}
 use native.Mathlib.Omega.{arith}
 use borrow.Author.Needs.{needs}
 use borrow.Author.Tests.{lt-ltb, le-ltb}

@@ -7,12 +7,11 @@ use lib.ListN.{length, getD, take}
 use lib.Dec.{eqb}
 use lib.Seq.{getD-take, length-take-le}
 use Rattle.cores.specs.declared.Asked.{Asked}
-use Rattle.cores.specs.declared.Which.the-variants.{Preemptive}
 use Rattle.cores.specs.Cores.{askedNothing}
-use Rattle.cores.specs.Promises.{askedAt, ownFirst, wantedLoads}
+use Rattle.cores.specs.Promises.{askedAt}
 use Rattle.analysis.specs.Promises.{Bounding}
 use Rattle.analysis.proofs.Cored.{own-below, own-fit, preemptive-fit, bounds-may, bounds-left}
-use Rattle.analysis.proofs.Fronts.{front-is, front-fits}
+use Rattle.cores.proofs.Fronts.{front-is, front-fits}
 use Rattle.analysis.proofs.bounds_of_row.Statement.{statement}
 use Rattle.analysis.proofs.bounds_of_row.Tie as tie
 

@@ -1,18 +1,18 @@
 -- `analysis::row_window` meets its contract: the blocking, the rows of the sum, and one search. Assumes nothing.
-use Prim.Native.Nat.{ℕ, _≤_}
+use Prim.Native.Nat.{_≤_}
 use native.Mathlib.Omega.{arith}
 use borrow.Author.Needs.{needs}
 use mathlib.Core.Path.{_≡_, sym, ap, ap₂, _∙_}
-use lib.ListN.{length, take, getD, length-replicate}
+use lib.ListN.{length, take, getD}
 use lib.Seq.{length-take-le}
 use Rattle.model.specs.Least.{value}
 use Rattle.bounds.specs.declared.Answer.{Answer}
 use Rattle.bounds.specs.Loads.{searched}
-use Rattle.cores.specs.Promises.{ownFirst, blockingIn}
+use Rattle.cores.specs.Promises.{ownFirst}
 use Rattle.analysis.specs.Promises.{windowIn}
 use Rattle.analysis.proofs.Cored.{own-below, own-fit, window-may, window-in}
 use Rattle.analysis.proofs.Lengths.{length-small}
-use Rattle.analysis.proofs.Fronts.{front-is, front-fits}
+use Rattle.cores.proofs.Fronts.{front-is, front-fits}
 use Rattle.analysis.proofs.row_window.Statement.{statement}
 use Rattle.analysis.proofs.row_window.Tie as tie
 

@@ -17,7 +17,7 @@ use Rattle.model.specs.Bounds.{onCore}
 use Rattle.model.proofs.Cores.{core-none, core-first, core-other}
 use Rattle.table.specs.declared.Row.{Row}
 use Rattle.table.specs.declared.Table.{Table}
-use Rattle.table.specs.Memory.{zeroRow, allTimes, taskOf, tasksOf}
+use Rattle.table.specs.Memory.{zeroRow, taskOf, tasksOf}
 use Rattle.table.proofs.Rows.{length-mapped}
 use Rattle.table.proofs.Laid.{Laid, laid-stored, times-long, behind-length, laid-more}
 use Rattle.table.proofs.Ahead.{Ahead, lent, Next, next, none-ahead, good-ahead}

@@ -1,12 +1,11 @@
 -- Numbers put in front of an array, as the code lends them. Assumes nothing.
 use Prim.Native.Nat.{ℕ, _≤_}
 use native.Mathlib.Omega.{arith}
-use mathlib.Core.Path.{_≡_, ap, _∙_}
+use mathlib.Core.Path.{_≡_, ap}
 use mathlib.Core.List.{List}
 use lib.ListN.{length, take}
-use Rattle.lists.specs.Lists.{over}
 use Rattle.lists.proofs.Overs.{over-length, take-over}
 use Rattle.cores.specs.Promises.{PutInFront}
 
 module _ {numbers old new : List ℕ} {end : ℕ} (p : PutInFront numbers old new end) where
   -- the part in front is these numbers
