@@ -114,7 +114,8 @@ module _ {c : Core} {ws : List ℕ} {size : ℕ} (b : ToBound c ws size) where
       bounds-fit =
           let f = rowBounds (tasksIn c) in
           let all : length (each f (tasksIn c)) ≡ length (each f (s .seen)) + length (each f (coming .task ∷ coming .others))
-          = ap (λ (ts : List Task). length (each f ts)) split-here ∙ ap length (each-append f (s .seen) _) ∙ length-append (each f (s .seen)) _ in
+          = ap (λ (ts : List Task). length (each f ts)) split-here
+          ∙ ap length (each-append f (s .seen) _) ∙ length-append (each f (s .seen)) _ in
           let own : length (each f (coming .task ∷ coming .others)) ≡ length (f (coming .task)) + length (each f (coming .others))
           = unfold each in length-append (f (coming .task)) _ in
           omega (arith, s .begins, bounds-length (tasksIn c) (tasksIn c), bounds-long (tasksIn c) (coming .task), parts-are, b .enough)

@@ -26,7 +26,8 @@ use Rattle.cores.specs.declared.Core.{Core}
 use Rattle.cores.specs.Cores.{coreOf, tasksIn}
 use Rattle.cores.proofs.AskedRows.{tasks-in}
 use Rattle.analysis.specs.declared.Analysed.{Analysed}
-use Rattle.analysis.specs.Analysis.{refusal, writes, roomSaid, coreSaid, Gives, fileSaid, fileRows, Analyses, tableSaid, AnalysesTable}
+use Rattle.analysis.specs.Analysis.{refusal, writes, roomSaid, coreSaid, Gives}
+use Rattle.analysis.specs.Analysis.{fileSaid, fileRows, Analyses, tableSaid, AnalysesTable}
 use Rattle.analysis.specs.Promises.{AnalysesGood}
 use Rattle.analysis.proofs.Given.{reading-writes-none, gives-none, gives-same}
 

@@ -4,7 +4,6 @@ ghost use Prim.Native.Nat.{_≤_, _<_};
 ghost use lib.ListN.{length, take};
 ghost use lib.Dec.{ltb};
 ghost use Rattle.lists.specs.Lists.{pick};
-ghost use Rattle.model.specs.Task.{Task};
 ghost use Rattle.table.specs.Verdicts.{codeOf};
 ghost use Rattle.table.specs.Faults.{faultOf};
 ghost use Rattle.cores.specs.Cores.{tasksIn};

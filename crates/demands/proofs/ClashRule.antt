@@ -142,7 +142,8 @@ module _ (rule : Rule) (rows : List Row) where
   -- a clash by the words passes the test
   clash-any : (i : ℕ) → (c : Clashes rule rows i) → any (breaks rule (c .row)) (take i rows) ≡ true
   clash-any i c =
-      place-any (breaks rule (c .row)) rows i (c .j) (c .earlier) (c .before) (c .there) (breaks-test rule (c .row) (c .earlier) .1 (c .broken))
+      place-any (breaks rule (c .row)) rows i (c .j) (c .earlier) (c .before) (c .there)
+      (breaks-test rule (c .row) (c .earlier) .1 (c .broken))
 
   -- and the other way round
   any-clash : (i : ℕ) (r : Row) → Place rows i r → any (breaks rule r) (take i rows) ≡ true → Clashes rule rows i

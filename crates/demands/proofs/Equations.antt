@@ -68,7 +68,8 @@ largest-some h (suc (suc n)) p =
     ⊎-elim (λ less. (suc n, omega arith, omega (arith, r .2))) (λ more. (r .0, omega (arith, r .1), omega (arith, r .2)))
     (either (h (r .0)) (h (suc n)))
 
-module _ (rows : List Task) (core : GoodCore rows) (t : Task) (m : t ∈ rows) (L : ℕ) (w : window rows t ≡ At L) (r : ℕ) (hr : r < parts t) where
+module _ (rows : List Task) (core : GoodCore rows) (t : Task) (m : t ∈ rows) (L : ℕ) (w : window rows t ≡ At L) (r : ℕ)
+    (hr : r < parts t) where
   -- as many jobs as are looked at
   all-jobs : jobs rows t ≡ before t L
   unfolding jobs value

@@ -139,7 +139,8 @@ fault-keeps t core room r room′ a n =
     (λ f.
     (let v = tableSaid t core (length room) in
     let e : v ≡ f .v = fault-said t _ (f .rule) (reading-fault (f .code)) in
-    stays v _ room r room′ a (keeps v (λ z. refused-not-0 (f .v) (f .code) (ap codeOf (sym e) ∙ z)) (λ z. refused-not-12 (f .v) (f .code) (ap codeOf (sym e) ∙ z)))))
+    let same : codeOf (f .v) ≡ codeOf v = ap codeOf (sym e) in
+    stays v _ room r room′ a (keeps v (λ z. refused-not-0 (f .v) (f .code) (same ∙ z)) (λ z. refused-not-12 (f .v) (f .code) (same ∙ z)))))
     (λ g. absurd (n g)) (fault-or-good t)
 
 -- a good table is analysed as its file

@@ -49,5 +49,6 @@ pub record Reads (s : List ℕ) : Type 0 where
 -- demand 1
 pub record Demand1 : Type 0 where
   pub one : (s : List ℕ) (core : ℕ) (room : List ℕ) → Answered s core room
-  pub says : (s : List ℕ) (core : ℕ) (room : List ℕ) (r : Analysed) (room′ : List ℕ) → Analyses s core room r room′ → AnswerSays s core room r room′
+  pub says : (s : List ℕ) (core : ℕ) (room : List ℕ) (r : Analysed) (room′ : List ℕ) → Analyses s core room r room′
+      → AnswerSays s core room r room′
   pub reads : (s : List ℕ) → Reads s

@@ -1,3 +1,4 @@
+// Stepping through wanted numbers: read the next one, or stop at its fault.
 ghost use mathlib.Core.Path.{_≡_};
 ghost use lib.ListN.{length};
 ghost use Rattle.table.specs.Fields.{want, wanted, LowsHighs};

@@ -65,7 +65,8 @@ module _ (s : List ℕ) (bs : Bytes s) where
   unfolding rowsAt
   rows-near zero done at h = go-near s (λ ts. length ts ≡ length done + zero) done at h (omega arith)
   rows-near (suc k) done at h =
-      then-near s Any (λ ts. length ts ≡ length done + suc k) (rowAt (length (allTimes done)) s at) _ (row-near (length (allTimes done)) at h)
+      then-near s Any (λ ts. length ts ≡ length done + suc k) (rowAt (length (allTimes done)) s at) _
+      (row-near (length (allTimes done)) at h)
       (λ t n l p. more t n (rows-near k (done ++ (t ∷ [])) n l))
     where
       more : (t : Task) (n : ℕ) → Near s (λ ts. length ts ≡ length (done ++ (t ∷ [])) + k) (rowsAt k (done ++ (t ∷ [])) s n)

@@ -1,16 +1,15 @@
 // Table files: read one into a table in memory, and write a table in memory as one.
 ghost use mathlib.Core.Path.{_≡_};
-ghost use mathlib.Core.List.{List, [], _++_};
+ghost use mathlib.Core.List.{[], _++_};
 ghost use Prim.Native.Nat.{_+_, _≤_};
 ghost use lib.ListN.{length, replicate};
 ghost use lib.Seq.{sets};
 ghost use Rattle.lists.specs.Lists.{over};
 ghost use Rattle.numbers.specs.Numbers.{encodeAll};
-ghost use Rattle.model.specs.Task.{Task};
 ghost use Rattle.table.specs.Fields.{head, time, fieldsOf};
 ghost use Rattle.table.specs.Verdicts.{codeOf};
 ghost use Rattle.table.specs.Faults.{faultOf};
-ghost use Rattle.table.specs.Memory.{stored, tasksOf};
+ghost use Rattle.table.specs.Memory.{tasksOf};
 ghost use Rattle.files.specs.Reading.{rowsAt, endAt, loaded, readAnswer};
 ghost use Rattle.fields.specs.Stepping.{stop, _then_, fieldsAt};
 ghost use Rattle.fields.specs.Promises.{ReadInto};

@@ -57,6 +57,7 @@ module _ {A : Type 0} where
       rw (take-append-seam, drop-append-seam, drop-drop, length-append, e) (sym (append-assoc new more _))
 
   -- what stands in it at a place of the last run
-  pub over-last : (new old more : List A) (k : ℕ) (d : A) → k < length more → getD (over (new ++ more) old) (length new + k) d ≡ getD more k d
+  pub over-last : (new old more : List A) (k : ℕ) (d : A) → k < length more
+      → getD (over (new ++ more) old) (length new + k) d ≡ getD more k d
   unfolding over
   over-last new old more k d h = rw (append-assoc, getD-append-add) (List·getD-append more _ d k h)

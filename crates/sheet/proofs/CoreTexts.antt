@@ -109,8 +109,8 @@ module _ {c : Core} (k : IsCore c) where
       }
 
   -- what is printed from them is the text of the core
-  pub text-is : (t : Table) (core : ℕ) → core ≤ 3 → tasksIn c ≡ onCore core (tasksOf t) → {bounds : List ℕ} {a : Analysed} {bounds′ : List ℕ}
-      → length bounds ≡ 1024 → Gives (roomSaid (tasksIn c) (length bounds)) (tasksIn c) bounds a bounds′
+  pub text-is : (t : Table) (core : ℕ) → core ≤ 3 → tasksIn c ≡ onCore core (tasksOf t)
+      → {bounds : List ℕ} {a : Analysed} {bounds′ : List ℕ} → length bounds ≡ 1024 → Gives (roomSaid (tasksIn c) (length bounds)) (tasksIn c) bounds a bounds′
       → coreBytes core (usedRows (c .own)) bounds′ (a .verdict) ≡ coreText (tasksOf t) core
   unfolding coreText roomSaid
   text-is t core small own {bounds} {a} {bounds′} long gives =

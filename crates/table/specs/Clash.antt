@@ -1,4 +1,4 @@
--- Document 01, codes 4, 5 and 6: the row ruleVerdict is the first row that clashes with an earlier row.
+-- Document 01, codes 4, 5 and 6: the row named is the first row that clashes with an earlier row.
 use Prim.Native.Nat.{ℕ, zero, suc}
 use mathlib.Core.Bool.{Bool, _&&_, _||_}
 use mathlib.Core.List.{List, [], _∷_, _++_}

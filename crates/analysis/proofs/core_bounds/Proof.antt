@@ -63,7 +63,8 @@ module _ (c : tie.In-loop Inv-loop μ-loop) where
 room-after : (c : tie.After-bounds-of-row Inv-loop μ-loop)
     → turn c .before .loop .a + count (turn c) - 1 < length (called (turn c .before) .args .room .now)
 unfolding count
-room-after c = omega (arith, room-fit (turn c), some (turn c), room-long (called (turn c .before) .pre) (turn c .before .loop .inv) (le-refl _))
+room-after c =
+    let l = turn c .before in omega (arith, room-fit (turn c), some (turn c), room-long (called l .pre) (l .loop .inv) (le-refl _))
 
 loop-holds : tie.Need-loop-holds Inv-loop μ-loop
 loop-holds c = none-put (c .before .before .before .before .before .pre) _
@@ -146,7 +147,8 @@ unfolding count
 slice-read-if1 c =
     let p = c .before .before .before in
     let l = turn p in
-    let same = put-long (called (l .before) .pre) (l .before .loop .inv) (le-refl _) (l .loop-test .taken) _ (p .bounds-of-row .ensures) _ refl in
+    let b = called (l .before) .pre in
+    let same = put-long b (l .before .loop .inv) (le-refl _) (l .loop-test .taken) _ (p .bounds-of-row .ensures) _ refl in
     omega (arith, room-after p, same)
 
 higher-of-requires : tie.Need-higher-of-requires Inv-loop μ-loop

@@ -20,10 +20,14 @@ use Rattle.analysis.proofs.row_window.Tie as tie
 fit : (c : tie.After-own-first) → c .own-first .result ≤ length (c .own-first .last .1 .1 .1 .0)
 fit c = front-fits (c .own-first .ensures) (own-fit (c .before .before .before .pre))
 
--- and stand in front of it
+-- the function's entry, as the call sees it
+abbrev entry : tie.After-own-first → tie.Start
+entry c = c .before .before .before
+
+-- they stand in front of it
 front : (c : tie.After-own-first)
     → take (c .own-first .result) (c .own-first .last .1 .1 .1 .0)
-    ≡ ownFirst (take (c .before .before .before .args .count) (c .before .before .before .args .asked)) (c .before .before .before .args .own)
+    ≡ ownFirst (take (entry c .args .count) (entry c .args .asked)) (entry c .args .own)
 front c = front-is (c .own-first .ensures)
 
 -- what the search found

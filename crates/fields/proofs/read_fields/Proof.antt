@@ -94,7 +94,8 @@ mul-read-field : tie.Need-mul-read-field Inv-loop μ-loop
 mul-read-field c = omega (arith, long (c .before .before .loop .inv))
 
 shared-slice-read-read-field : tie.Need-shared-slice-read-read-field Inv-loop μ-loop
-shared-slice-read-read-field c = omega (arith, c .before .before .before .loop .inv .ranges .lows, long (c .before .before .before .loop .inv))
+shared-slice-read-read-field c =
+    let k = c .before .before .before .loop .inv in omega (arith, k .ranges .lows, long k)
 
 read-field-requires : tie.Need-read-field-requires Inv-loop μ-loop
 read-field-requires c κs = search needs

@@ -49,7 +49,8 @@ module _ {out₀ ns out : List ℕ} {p i : ℕ} (k : Putting out₀ ns out p i) 
       upto = omega arith;
       place = next;
       put =
-          new-behind (encodeAll (take i ns)) out₀ (encode (getD ns i 0)) out p (k .put) (k .place) (omega (arith, fits-here, put .size)) part
+          new-behind (encodeAll (take i ns)) out₀ (encode (getD ns i 0)) out p (k .put) (k .place)
+          (omega (arith, fits-here, put .size)) part
           (put .bytes)
           ∙ rw more;
     }

@@ -147,7 +147,6 @@ no-rows-requires c κs = search needs
 returns : tie.Need-returns Inv-loop μ-loop
 returns c =
     let c2 = c .before .before in
-    let c2 = c2 in
     let c4 = c2 .before .before in
     let c5 = c4 .before in
     let c6 = c5 .before in
@@ -197,7 +196,6 @@ no-rows-requires-2 c κs = search needs
 returns-2 : tie.Need-returns-2 Inv-loop μ-loop
 returns-2 c =
     let c2 = c .before .before in
-    let c2 = c2 in
     let c5 = c2 .before .before .before in
     let c9 = c5 .before .before .before .before in
     let c12 = c9 .before .before .before in
