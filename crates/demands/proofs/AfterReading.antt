@@ -2,12 +2,12 @@
 use Prim.Native.Nat.{ℕ, zero, suc, _-_, _≤_}
 use native.Mathlib.Omega.{arith}
 use mathlib.Core.Path.{_≡_, refl, sym}
-use mathlib.Core.List.{List, [], _∷_, _++_, map}
+use mathlib.Core.List.{List, [], _∷_, _++_}
 use lib.ListN.{length, replicate, length-map}
 use Rattle.lists.specs.Lists.{total, Place}
 use Rattle.model.specs.Task.{Task, parts}
 use Rattle.table.specs.declared.Row.{Row}
-use Rattle.table.specs.Memory.{zeroRow, rowOf, allTimes, stored}
+use Rattle.table.specs.Memory.{rowsOf, zeroRow, rowOf, allTimes, stored}
 use Rattle.demands.specs.Rules.{GoodFile}
 use Rattle.demands.specs.GoodTables.{NoRowsIsGood}
 use Rattle.demands.specs.AfterReading.{RowHas, HasTasks, AfterReading}
@@ -56,7 +56,7 @@ file-has : {s : List ℕ} {tasks : List Task} → GoodFile s tasks → HasTasks 
 unfolding parts
 file-has {tasks = ts} g =
     record {
-      row = λ i u p. (rowOf u, place-left (map rowOf ts) _ i (rowOf u) (place-made rowOf ts i u p), has-own (rowOf u));
+      row = λ i u p. (rowOf u, place-left (rowsOf ts) _ i (rowOf u) (place-made rowOf ts i u p), has-own (rowOf u));
       time = λ i u l p h. time-placed ts _ i u l p h;
       unused =
           record {
@@ -64,7 +64,7 @@ file-has {tasks = ts} g =
             places = (rows-stored g, times-stored g);
             row =
                 λ i r h p.
-                rw (place-fill zeroRow (64 - length (map rowOf ts)) (map rowOf ts) i r (rw length-map h) p) (has-own zeroRow);
+                rw (place-fill zeroRow (64 - length (rowsOf ts)) (rowsOf ts) i r (rw length-map h) p) (has-own zeroRow);
             time = λ i x h p. place-fill 0 (1024 - length (allTimes ts)) (allTimes ts) i x (rw times-count h) p;
           };
     }

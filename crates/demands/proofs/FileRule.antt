@@ -3,7 +3,7 @@ use Prim.Native.Nat.{ℕ, _<_}
 use borrow.Author.Tests.{lt-ltb, le-ltb}
 use mathlib.Core.Path.{_≡_, refl, ap, subst, _∙_}
 use mathlib.Core.Logic.{_⊎_, inl, inr, ⊎-elim}
-use mathlib.Core.List.{List, map}
+use mathlib.Core.List.{List}
 use lib.ListN.{length}
 use Rattle.lists.proofs.Tests.{either}
 use Rattle.model.specs.Task.{Task}
@@ -11,7 +11,7 @@ use Rattle.table.specs.declared.Verdict.{Verdict}
 use Rattle.table.specs.declared.Verdict.the-variants as C
 use Rattle.table.specs.Verdicts.{codeOf, good}
 use Rattle.table.specs.Fields.{Wanted}
-use Rattle.table.specs.Memory.{rowOf}
+use Rattle.table.specs.Memory.{rowsOf}
 use Rattle.table.proofs.ReadingCodes.{RefusedReading, refused-not-0}
 use Rattle.fields.specs.Stepping.{stop, go, _then_, unless}
 use Rattle.files.specs.Reading.{rowsAt, endAt, decode}
@@ -59,9 +59,9 @@ module _ {s : List ℕ} where
       record { said = wants-read a (rule-refuses s w at r); rule = FileRule.number a r; code = number-code s w at r }
 
   -- a whole file goes by its clashes
-  whole-read : {tasks : List Task} (w : Whole s tasks) {v : Verdict} → ClashRule (map rowOf tasks) v → decode s ≡ unless v tasks (w .at)
+  whole-read : {tasks : List Task} (w : Whole s tasks) {v : Verdict} → ClashRule (rowsOf tasks) v → decode s ≡ unless v tasks (w .at)
   unfolding endAt
-  whole-read {tasks} w r = end-read (w .rows) ∙ rw (le-ltb (w .at) (length s) (w .last), rule-clashes (map rowOf tasks) r)
+  whole-read {tasks} w r = end-read (w .rows) ∙ rw (le-ltb (w .at) (length s) (w .last), rule-clashes (rowsOf tasks) r)
 
   -- a good file is read
   pub good-read : {tasks : List Task} (g : GoodFile s tasks) → decode s ≡ go tasks (g .whole .at)
@@ -69,10 +69,10 @@ module _ {s : List ℕ} where
   good-read g = whole-read (g .whole) (g .apart)
 
   -- by the rules a file is good or refused
-  whole-rule : {tasks : List Task} {v : Verdict} → Whole s tasks → ClashRule (map rowOf tasks) v → ((v ≡ C.Good) × Read s) ⊎ Refused s v
+  whole-rule : {tasks : List Task} {v : Verdict} → Whole s tasks → ClashRule (rowsOf tasks) v → ((v ≡ C.Good) × Read s) ⊎ Refused s v
   unfolding unless
   whole-rule {tasks} {v} w r =
-      ⊎-elim (λ e. inl (e, record { tasks = tasks; file = record { whole = w; apart = subst (ClashRule (map rowOf tasks)) e r } }))
+      ⊎-elim (λ e. inl (e, record { tasks = tasks; file = record { whole = w; apart = subst (ClashRule (rowsOf tasks)) e r } }))
       (λ c.
       inr
       (record {
@@ -80,7 +80,7 @@ module _ {s : List ℕ} where
         rule = FileRule.table w r;
         code = c;
       }))
-      (clash-code (map rowOf tasks) r)
+      (clash-code (rowsOf tasks) r)
 
   -- whichever rule it is
   pub by-rule : {v : Verdict} → FileRule s v → ((v ≡ C.Good) × Read s) ⊎ Refused s v
@@ -94,7 +94,7 @@ file-rule s =
     ⊎-elim (λ a. inl (a .v, number-refused (a .wants) (refused-rule s (a .w) (a .at) (a .v) (a .refused))))
     (λ a.
     ⊎-elim (λ h. inl (_, rest-refused (a .rows) h))
-    (λ h. whole (whole-rule (record { at = a .at; rows = a .rows; last = h }) (clashes-rule (map rowOf (a .tasks)))))
+    (λ h. whole (whole-rule (record { at = a .at; rows = a .rows; last = h }) (clashes-rule (rowsOf (a .tasks)))))
     (either (a .at) (length s)))
     (reached s)
   where

@@ -2,14 +2,14 @@
 use Prim.Native.Nat.{ℕ, _≤_}
 use native.Mathlib.Omega.{arith}
 use mathlib.Core.Path.{_≡_}
-use mathlib.Core.List.{List, map}
+use mathlib.Core.List.{List}
 use lib.ListN.{length, length-map}
 use Rattle.lists.specs.Lists.{_∈_}
 use Rattle.lists.proofs.PadStores.{pad-length}
 use Rattle.model.specs.Task.{Task}
 use Rattle.model.specs.Rows.{GoodTask, GoodCore}
 use Rattle.model.specs.Bounds.{onCore}
-use Rattle.table.specs.Memory.{zeroRow, rowOf, allTimes, stored}
+use Rattle.table.specs.Memory.{rowsOf, zeroRow, allTimes, stored}
 use Rattle.table.proofs.Stored.{tasks-stored}
 use Rattle.table.proofs.GoodTasks.{GoodTasks, times-fit, stored-good}
 use Rattle.table.proofs.GoodCore.{good-core}
@@ -29,7 +29,7 @@ module _ {s : List ℕ} {tasks : List Task} (file : GoodFile s tasks) where
 
   -- stored, they fill 64 rows
   pub rows-stored : length (stored tasks .rows) ≡ 64
-  rows-stored = pad-length zeroRow 64 (map rowOf tasks) (rw length-map (good-tasks .few))
+  rows-stored = pad-length zeroRow 64 (rowsOf tasks) (rw length-map (good-tasks .few))
 
   -- and 1,024 times
   pub times-stored : length (stored tasks .times) ≡ 1024

@@ -4,7 +4,7 @@ use native.Mathlib.Omega.{arith}
 use borrow.Author.Tests.{ltb-true}
 use mathlib.Core.Path.{_≡_, refl, sym, ap}
 use mathlib.Core.Logic.{_⊎_, inl, inr, ⊎-elim}
-use mathlib.Core.List.{List, [], _∷_, _++_, map}
+use mathlib.Core.List.{List, [], _∷_, _++_}
 use lib.ListN.{length, getD, replicate}
 use lib.Dec.{ltb}
 use Rattle.lists.specs.Lists.{each, total, Place}
@@ -19,7 +19,7 @@ use Rattle.table.specs.declared.Rule.the-variants as R
 use Rattle.table.specs.declared.Verdict.{Verdict}
 use Rattle.table.specs.Verdicts.{codeOf}
 use Rattle.table.specs.Fields.{field, partCount, head, time}
-use Rattle.table.specs.Memory.{rowOf}
+use Rattle.table.specs.Memory.{rowsOf, rowOf}
 use Rattle.table.proofs.Stored.{times-count}
 use Rattle.table.proofs.Fine.{Fine, AllFine}
 use Rattle.table.proofs.GoodTasks.{FineTask, FineTasks, GoodTasks}
@@ -99,7 +99,7 @@ good-none (ClashRule.none a b c) e R.KindsCrossed = c
 module _ (tasks : List Task) where
   -- a task and an earlier one whose rows break a rule
   clash-of : (rule : Rule) (i j : ℕ) (a b : Task) → j < i → Place tasks i a → Place tasks j b → Breaks rule (rowOf a) (rowOf b)
-      → Clashes rule (map rowOf tasks) i
+      → Clashes rule (rowsOf tasks) i
   clash-of rule i j a b h p q e =
       record {
         j = j;
@@ -112,7 +112,7 @@ module _ (tasks : List Task) where
       }
 
   -- where no rule is broken, no two tasks are against each other
-  none-against : ((rule : Rule) → None rule (map rowOf tasks)) → (i j : ℕ) (a b : Task) → Place tasks i a → Place tasks j b
+  none-against : ((rule : Rule) → None rule (rowsOf tasks)) → (i j : ℕ) (a b : Task) → Place tasks i a → Place tasks j b
       → (i ≡ j → ⊥) → Against a b → ⊥
   none-against none i j a b p q other c =
       let r = against-breaks c in
@@ -121,7 +121,7 @@ module _ (tasks : List Task) where
       (either i j)
 
   -- where no two tasks are, no rule is broken
-  against-none : GoodRows tasks → (rule : Rule) → None rule (map rowOf tasks)
+  against-none : GoodRows tasks → (rule : Rule) → None rule (rowsOf tasks)
   against-none g rule i c =
       let a = made-place rowOf tasks i (c .row) (c .here) in
       let b = made-place rowOf tasks (c .j) (c .earlier) (c .there) in
@@ -171,7 +171,7 @@ rows-good tasks g =
     record {
       few = g .rows;
       fine = fine-tasks 0 tasks (g .ranges) (omega (arith, g .times));
-      apart = ap codeOf (rule-clashes (map rowOf tasks) (ClashRule.none (none R.SameId) (none R.SamePriority) (none R.KindsCrossed)));
+      apart = ap codeOf (rule-clashes (rowsOf tasks) (ClashRule.none (none R.SameId) (none R.SamePriority) (none R.KindsCrossed)));
     }
 
 -- ---- both ways

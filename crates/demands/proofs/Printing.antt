@@ -3,7 +3,6 @@ use Prim.Native.Nat.{ℕ, _≤_, _<_}
 use mathlib.Core.Path.{refl, ap}
 use mathlib.Core.List.{List}
 use lib.ListN.{length}
-use Rattle.lists.specs.Lists.{over}
 use Rattle.table.specs.declared.Verdict.the-variants.{Good}
 use Rattle.table.specs.declared.Written.{Written}
 use Rattle.table.proofs.Writes.{refuses-room, writes-all, answers-agree, bytes-agree}
@@ -20,7 +19,6 @@ module _ (s out : List ℕ) (r : Written) (out′ : List ℕ) (p : Prints s out 
 
   -- in enough
   in-full : length (sheetText s) ≤ length out → InFull (sheetText s) out r out′
-  unfolding over
   in-full h =
       let w = writes-all Good (sheetText s) out refl _ refl h _ refl in
       let answer = answers-agree Good (sheetText s) out r out′ p _ _ w in

@@ -1,8 +1,9 @@
 -- What printing a file's sheet into lent bytes answers and leaves, in words: in too short a room, and in enough.
 use Prim.Native.Nat.{ℕ, _≤_, _<_}
 use mathlib.Core.Path.{_≡_}
-use mathlib.Core.List.{List, _++_}
-use lib.ListN.{length, drop}
+use mathlib.Core.List.{List}
+use lib.ListN.{length}
+use Rattle.lists.specs.Lists.{over}
 use Rattle.table.specs.declared.Written.{Written}
 use Rattle.sheet.specs.Sheet.{sheetText, Prints}
 use Rattle.demands.specs.Codes.{Carries}
@@ -13,7 +14,7 @@ TooShort text out r out′ = Carries (r .verdict) 10 (length text) × (r .count 
 
 -- enough: the text stands in front, and the rest stays
 abbrev pub InFull : List ℕ → List ℕ → Written → List ℕ → Type 0
-InFull text out r out′ = Carries (r .verdict) 0 0 × (r .count ≡ length text) × (out′ ≡ text ++ drop (length text) out)
+InFull text out r out′ = Carries (r .verdict) 0 0 × (r .count ≡ length text) × (out′ ≡ over text out)
 
 -- one or the other, by the length of the room
 pub record Printing : Type 0 where

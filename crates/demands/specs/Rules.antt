@@ -2,7 +2,7 @@
 use Prim.Native.Nat.{ℕ, _≤_, _<_}
 use mathlib.Core.Path.{_≡_}
 use mathlib.Core.Logic.{_⊎_}
-use mathlib.Core.List.{List, map}
+use mathlib.Core.List.{List}
 use lib.ListN.{length, drop}
 use Rattle.lists.specs.Lists.{Place}
 use Rattle.numbers.specs.Numbers.{numberAt}
@@ -17,7 +17,7 @@ use Rattle.table.specs.declared.Rule.the-variants as R
 use Rattle.table.specs.declared.Verdict.{Verdict}
 use Rattle.table.specs.declared.Verdict.the-variants as C
 use Rattle.table.specs.Fields.{Wanted}
-use Rattle.table.specs.Memory.{rowOf}
+use Rattle.table.specs.Memory.{rowsOf}
 use Rattle.analysis.specs.Analysis.{needed}
 use Rattle.demands.specs.Reached.{CutOff, IllFormed, Rows, Wants}
 
@@ -91,12 +91,12 @@ pub data FileRule (s : List ℕ) : Verdict → Type 0 where
   number : {at : ℕ} {w : Wanted} {v : Verdict} → Wants s at w → NumberRule s w at v → FileRule s v
   -- bytes after the last row: offset of the first
   rest : {tasks : List Task} {at : ℕ} → Rows s 0 tasks at → at < length s → FileRule s (C.Trailing at)
-  table : {tasks : List Task} {v : Verdict} → Whole s tasks → ClashRule (map rowOf tasks) v → FileRule s v
+  table : {tasks : List Task} {v : Verdict} → Whole s tasks → ClashRule (rowsOf tasks) v → FileRule s v
 
 -- a good file, and the tasks that it has
 pub record GoodFile (s : List ℕ) (tasks : List Task) : Type 0 where
   pub whole : Whole s tasks
-  pub apart : ClashRule (map rowOf tasks) C.Good
+  pub apart : ClashRule (rowsOf tasks) C.Good
 
 -- ---- 9, 10, 11, 12 and 0: a core, its rows, and so much room
 
