@@ -84,24 +84,9 @@ loop-holds c =
       before = refl;
     }
 
-mul-most : tie.Need-mul-most Inv-loop μ-loop
-mul-most c = omega (arith, long (c .before .loop .inv))
-
-shared-slice-read-most : tie.Need-shared-slice-read-most Inv-loop μ-loop
-shared-slice-read-most c = omega (arith, c .before .before .loop .inv .ranges .highs, long (c .before .before .loop .inv))
-
-mul-read-field : tie.Need-mul-read-field Inv-loop μ-loop
-mul-read-field c = omega (arith, long (c .before .before .loop .inv))
-
 shared-slice-read-read-field : tie.Need-shared-slice-read-read-field Inv-loop μ-loop
 shared-slice-read-read-field c =
     let k = c .before .before .before .loop .inv in omega (arith, k .ranges .lows, long k)
-
-read-field-requires : tie.Need-read-field-requires Inv-loop μ-loop
-read-field-requires c κs = search needs
-
-enum-known-v : tie.Need-enum-known-v Inv-loop μ-loop
-enum-known-v c = search needs
 
 same-length : tie.Need-same-length Inv-loop μ-loop
 same-length c = long (c .before .before .before .before .before .before .before .loop .inv)
@@ -111,21 +96,6 @@ returns c =
     let c3 = c .before .before .before in
     let c6 = c3 .before .before .before in
     halts (c6 .before .loop .inv) (c6 .loop-test .taken) _ (refused-field _ _ (sym (c .before .v .given .1) ∙ c3 .read-field .ensures))
-
-enum-known-value : tie.Need-enum-known-value Inv-loop μ-loop
-enum-known-value c = search needs
-
-mul-out : tie.Need-mul-out Inv-loop μ-loop
-mul-out c = omega (arith, long (c .before .before .before .before .before .before .before .loop .inv))
-
-slice-write-out : tie.Need-slice-write-out Inv-loop μ-loop
-slice-write-out c = search needs
-
-add-i : tie.Need-add-i Inv-loop μ-loop
-add-i c = omega (arith, long (c .before .before .before .before .before .before .before .loop .inv))
-
-loop-less : tie.Need-loop-less Inv-loop μ-loop
-loop-less c = omega (arith, long (c .before .before .before .before .before .before .before .loop .inv))
 
 loop-again : tie.Need-loop-again Inv-loop μ-loop
 loop-again c =
@@ -146,19 +116,19 @@ read-fields-spec =
     Inv-loop
     μ-loop
     loop-holds
-    mul-most
-    shared-slice-read-most
-    mul-read-field
+    (λ c. omega (arith, long (c .before .loop .inv)))
+    (λ c. omega (arith, c .before .before .loop .inv .ranges .highs, long (c .before .before .loop .inv)))
+    (λ c. omega (arith, long (c .before .before .loop .inv)))
     shared-slice-read-read-field
-    read-field-requires
-    enum-known-v
+    (λ c κs. search needs)
+    (λ c. search needs)
     same-length
     returns
-    enum-known-value
-    mul-out
-    slice-write-out
-    add-i
-    loop-less
+    (λ c. search needs)
+    (λ c. omega (arith, long (c .before .before .before .before .before .before .before .loop .inv)))
+    (λ c. search needs)
+    (λ c. omega (arith, long (c .before .before .before .before .before .before .before .loop .inv)))
+    (λ c. omega (arith, long (c .before .before .before .before .before .before .before .loop .inv)))
     loop-again
     same-length-2
     returns-2)

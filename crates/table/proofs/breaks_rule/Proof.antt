@@ -6,27 +6,12 @@ use borrow.Author.Needs.{needs}
 use Rattle.table.proofs.breaks_rule.Statement.{statement}
 use Rattle.table.proofs.breaks_rule.Tie as tie
 
-enum-told : tie.Need-enum-told
-enum-told c = search needs
-
-enum-told-2 : tie.Need-enum-told-2
-enum-told-2 c = search needs
-
-enum-told-3 : tie.Need-enum-told-3
-enum-told-3 c = search needs
-
-coop-above-requires : tie.Need-coop-above-requires
-coop-above-requires c κs = search needs
-
 returns : tie.Need-returns
 unfolding breaks
 returns c =
     let c2 = c .before .before in
     let c5 = c2 .before .before .before in
     rw (c5 .enum-told3 .given .1, eq-eqb _ _ (c2 .if2 .taken), sym (c .before .coop-above .ensures) ∙ c .if3 .taken)
-
-coop-above-requires-2 : tie.Need-coop-above-requires-2
-coop-above-requires-2 c κs = search needs
 
 returns-2 : tie.Need-returns-2
 unfolding breaks
@@ -57,12 +42,12 @@ pub breaks-rule-spec : {M : Type 1} → statement M
 breaks-rule-spec =
     tie.close
     (tie.spec
-    enum-told
-    enum-told-2
-    enum-told-3
-    coop-above-requires
+    (λ c. search needs)
+    (λ c. search needs)
+    (λ c. search needs)
+    (λ c κs. search needs)
     returns
-    coop-above-requires-2
+    (λ c κs. search needs)
     returns-2
     returns-3
     returns-4

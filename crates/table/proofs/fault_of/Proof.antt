@@ -10,21 +10,12 @@ returns : tie.Need-returns
 unfolding faultOf
 returns c = rw (lt-ltb _ _ (c .if1 .taken))
 
-rows-fault-requires : tie.Need-rows-fault-requires
-rows-fault-requires c κs = search needs
-
-code-of-requires : tie.Need-code-of-requires
-code-of-requires c κs = search needs
-
 returns-2 : tie.Need-returns-2
 unfolding faultOf
 returns-2 c =
     let c2 = c .before .before in
     let c3 = c2 .before in
     rw (le-ltb _ _ (c3 .if1 .left)) (fault-stays (c2 .rows-fault .ensures) (c .before .code-of .ensures) _ (c .if2 .taken))
-
-clash-of-requires : tie.Need-clash-of-requires
-clash-of-requires c κs = search needs
 
 returns-3 : tie.Need-returns-3
 unfolding faultOf
@@ -38,4 +29,4 @@ returns-3 c =
 pub fault-of-spec : {M : Type 1} → statement M
 fault-of-spec =
     tie.close
-    (tie.spec returns rows-fault-requires code-of-requires returns-2 clash-of-requires returns-3)
+    (tie.spec returns (λ c κs. search needs) (λ c κs. search needs) returns-2 (λ c κs. search needs) returns-3)

@@ -71,9 +71,6 @@ Inv-rows rule t n i₀ i = Looking rule t n i
 abbrev μ-rows : tie.MeasureT-rows
 μ-rows rule t n i₀ i = n - i
 
-rows-used-requires : tie.Need-rows-used-requires Inv-loop μ-loop Inv-rows μ-rows
-rows-used-requires c κs = search needs
-
 rows-holds : tie.Need-rows-holds Inv-loop μ-loop Inv-rows μ-rows
 rows-holds c =
     let t = c .before .args .t1 in
@@ -86,29 +83,8 @@ rows-holds c =
       same = outer-start (breaks (c .before .args .rule)) (usedRows t) zeroRow 0;
     }
 
-mul-row : tie.Need-mul-row Inv-loop μ-loop Inv-rows μ-rows
-mul-row c = omega arith
-
-element-copy-out-row : tie.Need-element-copy-out-row Inv-loop μ-loop Inv-rows μ-rows
-element-copy-out-row c = omega arith
-
 loop-holds : tie.Need-loop-holds Inv-loop μ-loop Inv-rows μ-rows
 loop-holds c = record { upto = search needs; same = refl }
-
-mul-earlier : tie.Need-mul-earlier Inv-loop μ-loop Inv-rows μ-rows
-mul-earlier c = omega arith
-
-element-copy-out-earlier : tie.Need-element-copy-out-earlier Inv-loop μ-loop Inv-rows μ-rows
-element-copy-out-earlier c = omega arith
-
-breaks-rule-requires : tie.Need-breaks-rule-requires Inv-loop μ-loop Inv-rows μ-rows
-breaks-rule-requires c κs = search needs
-
-add-j : tie.Need-add-j Inv-loop μ-loop Inv-rows μ-rows
-add-j c = omega arith
-
-loop-less : tie.Need-loop-less Inv-loop μ-loop Inv-rows μ-rows
-loop-less c = omega arith
 
 loop-again : tie.Need-loop-again Inv-loop μ-loop Inv-rows μ-rows
 loop-again c =
@@ -118,12 +94,6 @@ loop-again c =
     let rows = inner .before .before .before in
     next-earlier _ _ _ _ (rows .rows .inv) (inner .before .before .rows-test .taken) _ (inner .loop .inv) (c3 .loop-test .taken)
     (sym (c .before .breaks-rule .ensures) ∙ c .if1 .left)
-
-add-i : tie.Need-add-i Inv-loop μ-loop Inv-rows μ-rows
-add-i c = omega arith
-
-rows-less : tie.Need-rows-less Inv-loop μ-loop Inv-rows μ-rows
-rows-less c = omega arith
 
 rows-again : tie.Need-rows-again Inv-loop μ-loop Inv-rows μ-rows
 rows-again c =
@@ -151,19 +121,19 @@ first-clash-spec =
     μ-loop
     Inv-rows
     μ-rows
-    rows-used-requires
+    (λ c κs. search needs)
     rows-holds
-    mul-row
-    element-copy-out-row
+    (λ c. omega arith)
+    (λ c. omega arith)
     loop-holds
-    mul-earlier
-    element-copy-out-earlier
-    breaks-rule-requires
-    add-j
-    loop-less
+    (λ c. omega arith)
+    (λ c. omega arith)
+    (λ c κs. search needs)
+    (λ c. omega arith)
+    (λ c. omega arith)
     loop-again
-    add-i
-    rows-less
+    (λ c. omega arith)
+    (λ c. omega arith)
     rows-again
     returns
     returns-2)

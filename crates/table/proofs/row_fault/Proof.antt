@@ -25,33 +25,9 @@ room-of c =
     let c4 = c .before .before .before .before in
     omega (arith, good-fields c .room, c4 .pre .1)
 
-head-fault-requires : tie.Need-head-fault-requires
-head-fault-requires c κs = search needs
-
-code-of-requires : tie.Need-code-of-requires
-code-of-requires c κs = search needs
-
 returns : tie.Need-returns
 unfolding rowFault
 returns c = fault-stays (c .before .before .head-fault .ensures) (c .before .code-of .ensures) _ (c .if1 .taken)
-
-cast-e : tie.Need-cast-e
-cast-e c = search needs
-
-add-e : tie.Need-add-e
-add-e c = search needs
-
-mul-times-fault : tie.Need-mul-times-fault
-mul-times-fault c = search needs
-
-sub-times-fault : tie.Need-sub-times-fault
-sub-times-fault c = search needs
-
-part-times-fault-start : tie.Need-part-times-fault-start
-part-times-fault-start c = search needs
-
-part-times-fault-end : tie.Need-part-times-fault-end
-part-times-fault-end c = omega (arith, room-of (c .before))
 
 times-fault-requires : tie.Need-times-fault-requires
 times-fault-requires c κs =
@@ -70,14 +46,14 @@ pub row-fault-spec : {M : Type 1} → statement M
 row-fault-spec =
     tie.close
     (tie.spec
-    head-fault-requires
-    code-of-requires
+    (λ c κs. search needs)
+    (λ c κs. search needs)
     returns
-    cast-e
-    add-e
-    mul-times-fault
-    sub-times-fault
-    part-times-fault-start
-    part-times-fault-end
+    (λ c. search needs)
+    (λ c. search needs)
+    (λ c. search needs)
+    (λ c. search needs)
+    (λ c. search needs)
+    (λ c. omega (arith, room-of (c .before)))
     times-fault-requires
     returns-2)

@@ -70,21 +70,6 @@ loop-holds c =
     let long : length (c .before .args .t1 .rows) ≡ 64 = search (needs, length-mapped) in
     record { few = omega (arith, c .before .pre); upto = search needs; room = search needs; same = refl }
 
-mul-row : tie.Need-mul-row Inv-loop μ-loop
-mul-row c = omega arith
-
-element-copy-out-row : tie.Need-element-copy-out-row Inv-loop μ-loop
-element-copy-out-row c = omega (arith, c .before .before .before .pre)
-
-slice-aggregate-row-fault : tie.Need-slice-aggregate-row-fault Inv-loop μ-loop
-slice-aggregate-row-fault c = search needs
-
-row-fault-requires : tie.Need-row-fault-requires Inv-loop μ-loop
-row-fault-requires c κs = (c .before .before .before .loop .inv .room, search needs)
-
-code-of-requires : tie.Need-code-of-requires Inv-loop μ-loop
-code-of-requires c κs = search needs
-
 returns : tie.Need-returns Inv-loop μ-loop
 returns c =
     let c2 = c .before .before in
@@ -99,12 +84,6 @@ add-used c =
     let c6 = c3 .before .before .before in
     let c7 = c6 .before in
     omega (arith, fits (c7 .loop .inv) (c6 .loop-test .taken) _ _ (c3 .row-fault .ensures) (c2 .code-of .ensures) (c .before .if1 .left))
-
-add-i : tie.Need-add-i Inv-loop μ-loop
-add-i c = omega arith
-
-loop-less : tie.Need-loop-less Inv-loop μ-loop
-loop-less c = omega arith
 
 loop-again : tie.Need-loop-again Inv-loop μ-loop
 loop-again c =
@@ -124,14 +103,14 @@ rows-fault-spec =
     Inv-loop
     μ-loop
     loop-holds
-    mul-row
-    element-copy-out-row
-    slice-aggregate-row-fault
-    row-fault-requires
-    code-of-requires
+    (λ c. omega arith)
+    (λ c. omega (arith, c .before .before .before .pre))
+    (λ c. search needs)
+    (λ c κs. (c .before .before .before .loop .inv .room, search needs))
+    (λ c κs. search needs)
     returns
     add-used
-    add-i
-    loop-less
+    (λ c. omega arith)
+    (λ c. omega arith)
     loop-again
     returns-2)
