@@ -157,9 +157,6 @@ cast-out c =
     let times : length (t .times) ≡ 1024 = search needs in
     omega (arith, good-ahead t rows times (c .before .before .pre .0) .few)
 
-slice-write-out : tie.Need-slice-write-out Inv-loop μ-loop
-slice-write-out c = omega (arith, c .before .before .pre .1)
-
 loop-holds : tie.Need-loop-holds Inv-loop μ-loop
 loop-holds c =
     let t = c .before .before .args .t1 in
@@ -167,63 +164,12 @@ loop-holds c =
     let times : length (t .times) ≡ 1024 = search needs in
     starts t (c .before .before .args .out .now) rows times (c .before .before .pre .1) (c .before .before .pre .0)
 
-mul-row : tie.Need-mul-row Inv-loop μ-loop
-mul-row c = omega (arith, c .before .loop .inv .ahead .few)
-
-element-copy-out-row : tie.Need-element-copy-out-row Inv-loop μ-loop
-element-copy-out-row c = omega (arith, c .before .loop .inv .ahead .few)
-
-cast-end : tie.Need-cast-end Inv-loop μ-loop
-cast-end c = search needs
-
-add-end : tie.Need-add-end Inv-loop μ-loop
-add-end c = omega (arith, room-here (c .before .before))
-
-mul-put-row : tie.Need-mul-put-row Inv-loop μ-loop
-mul-put-row c = omega (arith, room-here (c .before .before))
-
-sub-put-row : tie.Need-sub-put-row Inv-loop μ-loop
-sub-put-row c = omega (arith, room-here (c .before .before))
-
-part-put-row-start : tie.Need-part-put-row-start Inv-loop μ-loop
-part-put-row-start c = omega (arith, room-here (c .before .before .before))
-
-part-put-row-end : tie.Need-part-put-row-end Inv-loop μ-loop
-part-put-row-end c = omega (arith, room-here (c .before .before .before))
-
-mul-put-row-2 : tie.Need-mul-put-row-2 Inv-loop μ-loop
-mul-put-row-2 c = omega (arith, room-here (c .before .before .before .before))
-
-sub-put-row-2 : tie.Need-sub-put-row-2 Inv-loop μ-loop
-sub-put-row-2 c = omega (arith, room-here (c .before .before .before .before))
-
-part-put-row-start-2 : tie.Need-part-put-row-start-2 Inv-loop μ-loop
-part-put-row-start-2 c = omega (arith, room-here (c .before .before .before .before))
-
-part-put-row-end-2 : tie.Need-part-put-row-end-2 Inv-loop μ-loop
-part-put-row-end-2 c = omega (arith, room-here (c .before .before .before .before))
-
 put-row-requires : tie.Need-put-row-requires Inv-loop μ-loop
 put-row-requires c κs =
     let c5 = c .before .before .before .before .before in
     let l = c5 .before .loop in
     rw (lent-length (here c5), length-take, length-drop)
     (omega (arith, room-here c5))
-
-add-p : tie.Need-add-p Inv-loop μ-loop
-add-p c = omega (arith, room-here (c .before .before .before .before .before .before .before .before))
-
-cast-p : tie.Need-cast-p Inv-loop μ-loop
-cast-p c = search needs
-
-add-p-2 : tie.Need-add-p-2 Inv-loop μ-loop
-add-p-2 c = omega (arith, room-here (c .before .before .before .before .before .before .before .before .before))
-
-add-i : tie.Need-add-i Inv-loop μ-loop
-add-i c = search needs
-
-loop-less : tie.Need-loop-less Inv-loop μ-loop
-loop-less c = search needs
 
 loop-again : tie.Need-loop-again Inv-loop μ-loop
 loop-again c =
@@ -249,26 +195,26 @@ file-numbers-spec =
     Inv-loop
     μ-loop
     cast-out
-    slice-write-out
+    (λ c. omega (arith, c .before .before .pre .1))
     loop-holds
-    mul-row
-    element-copy-out-row
-    cast-end
-    add-end
-    mul-put-row
-    sub-put-row
-    part-put-row-start
-    part-put-row-end
-    mul-put-row-2
-    sub-put-row-2
-    part-put-row-start-2
-    part-put-row-end-2
+    (λ c. omega (arith, c .before .loop .inv .ahead .few))
+    (λ c. omega (arith, c .before .loop .inv .ahead .few))
+    (λ c. search needs)
+    (λ c. omega (arith, room-here (c .before .before)))
+    (λ c. omega (arith, room-here (c .before .before)))
+    (λ c. omega (arith, room-here (c .before .before)))
+    (λ c. omega (arith, room-here (c .before .before .before)))
+    (λ c. omega (arith, room-here (c .before .before .before)))
+    (λ c. omega (arith, room-here (c .before .before .before .before)))
+    (λ c. omega (arith, room-here (c .before .before .before .before)))
+    (λ c. omega (arith, room-here (c .before .before .before .before)))
+    (λ c. omega (arith, room-here (c .before .before .before .before)))
     put-row-requires
-    add-p
-    cast-p
-    add-p-2
-    add-i
-    loop-less
+    (λ c. omega (arith, room-here (c .before .before .before .before .before .before .before .before)))
+    (λ c. search needs)
+    (λ c. omega (arith, room-here (c .before .before .before .before .before .before .before .before .before)))
+    (λ c. search needs)
+    (λ c. search needs)
     loop-again
     same-length
     returns)

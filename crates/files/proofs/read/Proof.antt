@@ -23,21 +23,6 @@ goes-on : (s : List ℕ) (n at : ℕ) → fieldAt (field 0 64) s 0 ≡ go n at �
 unfolding readAnswer decode _then_
 goes-on s n at e = rw e
 
-read-field-requires : tie.Need-read-field-requires
-read-field-requires c κs = search needs
-
-enum-known-v : tie.Need-enum-known-v
-enum-known-v c = search needs
-
-refuse-requires : tie.Need-refuse-requires
-refuse-requires c κs = search needs
-
-enum-known-value : tie.Need-enum-known-value
-enum-known-value c = search needs
-
-cast-read-body : tie.Need-cast-read-body
-cast-read-body c = search needs
-
 read-body-requires : tie.Need-read-body-requires
 read-body-requires c κs =
     let c1 = c .before in
@@ -62,11 +47,11 @@ pub read-spec : {M : Type 1} → statement M
 read-spec =
     tie.close
     (tie.spec
-    read-field-requires
-    enum-known-v
-    refuse-requires
-    enum-known-value
-    cast-read-body
+    (λ c κs. search needs)
+    (λ c. search needs)
+    (λ c κs. search needs)
+    (λ c. search needs)
+    (λ c. search needs)
     read-body-requires
     returns
     returns-2)

@@ -35,20 +35,8 @@ module _ (s : List ℕ) (at : ℕ) (t : Table) where
     unfolding closed
     fine e = rw (le-ltb at (length s) all, ← said, is-good v (sym code ∙ e))
 
-refuse-requires : tie.Need-refuse-requires
-refuse-requires c κs = search needs
-
 returns : tie.Need-returns
 returns c = c .refuse .ensures ∙ past _ _ _ (c .before .if1 .taken)
-
-clash-of-requires : tie.Need-clash-of-requires
-clash-of-requires c κs = search needs
-
-code-of-requires : tie.Need-code-of-requires
-code-of-requires c κs = search needs
-
-refuse-requires-2 : tie.Need-refuse-requires-2
-refuse-requires-2 c κs = search needs
 
 returns-2 : tie.Need-returns-2
 returns-2 c =
@@ -70,10 +58,10 @@ pub read-end-spec : {M : Type 1} → statement M
 read-end-spec =
     tie.close
     (tie.spec
-    refuse-requires
+    (λ c κs. search needs)
     returns
-    clash-of-requires
-    code-of-requires
-    refuse-requires-2
+    (λ c κs. search needs)
+    (λ c κs. search needs)
+    (λ c κs. search needs)
     returns-2
     returns-3)

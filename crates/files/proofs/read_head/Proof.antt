@@ -59,45 +59,6 @@ module _ (used : ℕ) (s : List ℕ) (at : ℕ) where
       unfolding _then_
       ends v n e = rw (in-two, plain, e, set-at part 0 [] v 6 count)
 
-slice-aggregate-read-fields : tie.Need-slice-aggregate-read-fields
-slice-aggregate-read-fields c = search needs
-
-slice-aggregate-read-fields-2 : tie.Need-slice-aggregate-read-fields-2
-slice-aggregate-read-fields-2 c = search needs
-
-array-borrow-prefix-fields : tie.Need-array-borrow-prefix-fields
-array-borrow-prefix-fields c = search needs
-
-slice-aggregate-read-fields-3 : tie.Need-slice-aggregate-read-fields-3
-slice-aggregate-read-fields-3 c = search needs
-
-read-fields-requires : tie.Need-read-fields-requires
-read-fields-requires c κs = search needs
-
-enum-known-v : tie.Need-enum-known-v
-enum-known-v c = search needs
-
-enum-known-p : tie.Need-enum-known-p
-enum-known-p c = search needs
-
-sub-read-field : tie.Need-sub-read-field
-sub-read-field c = search needs
-
-read-field-requires : tie.Need-read-field-requires
-read-field-requires c κs = search needs
-
-enum-known-v-2 : tie.Need-enum-known-v-2
-enum-known-v-2 c = search needs
-
-enum-known-value : tie.Need-enum-known-value
-enum-known-value c = search needs
-
-array-write-fields : tie.Need-array-write-fields
-array-write-fields c = search needs
-
-row-of-requires : tie.Need-row-of-requires
-row-of-requires c κs = search needs
-
 returns : tie.Need-returns
 unfolding lows highs
 returns c =
@@ -130,19 +91,19 @@ pub read-head-spec : {M : Type 1} → statement M
 read-head-spec =
     tie.close
     (tie.spec
-    slice-aggregate-read-fields
-    slice-aggregate-read-fields-2
-    array-borrow-prefix-fields
-    slice-aggregate-read-fields-3
-    read-fields-requires
-    enum-known-v
-    enum-known-p
-    sub-read-field
-    read-field-requires
-    enum-known-v-2
-    enum-known-value
-    array-write-fields
-    row-of-requires
+    (λ c. search needs)
+    (λ c. search needs)
+    (λ c. search needs)
+    (λ c. search needs)
+    (λ c κs. search needs)
+    (λ c. search needs)
+    (λ c. search needs)
+    (λ c. search needs)
+    (λ c κs. search needs)
+    (λ c. search needs)
+    (λ c. search needs)
+    (λ c. search needs)
+    (λ c κs. search needs)
     returns
     returns-2
     returns-3)

@@ -121,9 +121,6 @@ slot-of c =
     let c7 = c4 .before .before .before in
     slot (c4 .loop .inv) (c7 .pre) (c3 .loop-test .taken) (got-row c)
 
-row-of-requires : tie.Need-row-of-requires Inv-loop μ-loop
-row-of-requires c κs = search needs
-
 loop-holds : tie.Need-loop-holds Inv-loop μ-loop
 unfolding each
 loop-holds c =
@@ -135,15 +132,6 @@ loop-holds c =
       same = rw sub-zero;
     }
 
-read-head-requires : tie.Need-read-head-requires Inv-loop μ-loop
-read-head-requires c κs = c .before .loop .inv .room
-
-enum-known-v : tie.Need-enum-known-v Inv-loop μ-loop
-enum-known-v c = search needs
-
-no-rows-requires : tie.Need-no-rows-requires Inv-loop μ-loop
-no-rows-requires c κs = search needs
-
 returns : tie.Need-returns Inv-loop μ-loop
 returns c =
     let c2 = c .before .before in
@@ -154,27 +142,6 @@ returns c =
     c .no-rows .ensures ∙ head-stops (c6 .loop .inv) (c9 .pre) (c5 .loop-test .taken) _
     (refused-head _ _ (sym (c2 .v .given .1) ∙ c4 .read-head .ensures))
 
-enum-known-row : tie.Need-enum-known-row Inv-loop μ-loop
-enum-known-row c = search needs
-
-add-end : tie.Need-add-end Inv-loop μ-loop
-add-end c = omega (arith, row-of-head (c .before .before) .room)
-
-cast-a : tie.Need-cast-a Inv-loop μ-loop
-cast-a c = omega (arith, row-of-head (c .before .before) .room)
-
-cast-e : tie.Need-cast-e Inv-loop μ-loop
-cast-e c = omega (arith, row-of-head (c .before .before) .room)
-
-mul-times : tie.Need-mul-times Inv-loop μ-loop
-mul-times c = omega (arith, row-of-head (c .before .before) .room)
-
-sub-read-times : tie.Need-sub-read-times Inv-loop μ-loop
-sub-read-times c = omega (arith, row-of-head (c .before .before) .room)
-
-part-times-start : tie.Need-part-times-start Inv-loop μ-loop
-part-times-start c = omega (arith, row-of-head (c .before .before) .room)
-
 part-times-end : tie.Need-part-times-end Inv-loop μ-loop
 part-times-end c =
     let c6 = c .before .before .before .before .before .before in
@@ -183,15 +150,6 @@ part-times-end c =
       row-of-head (c .before .before) .room,
       times-long (c6 .loop .inv .laid) (c6 .loop .inv .room),
     )
-
-read-times-requires : tie.Need-read-times-requires Inv-loop μ-loop
-read-times-requires c κs = rw (slot-of (c .before .before .before)) (row-of-head (c .before .before .before) .parts .most)
-
-enum-known-v-2 : tie.Need-enum-known-v-2 Inv-loop μ-loop
-enum-known-v-2 c = search needs
-
-no-rows-requires-2 : tie.Need-no-rows-requires-2 Inv-loop μ-loop
-no-rows-requires-2 c κs = search needs
 
 returns-2 : tie.Need-returns-2 Inv-loop μ-loop
 returns-2 c =
@@ -204,9 +162,6 @@ returns-2 c =
     c .no-rows2 .ensures ∙ times-stops (c13 .loop .inv) (c16 .pre) (c12 .loop-test .taken) (got-row (c9)) _
     (rw (slot-of (c9)) at (into-refused _ (rw (c2 .v2 .given .1) at (c5 .read-times .ensures))))
 
-enum-known-q : tie.Need-enum-known-q Inv-loop μ-loop
-enum-known-q c = search needs
-
 mul-rows : tie.Need-mul-rows Inv-loop μ-loop
 mul-rows c =
     let c15 = c .before .before .before .before .before .before .before .before .before .before .before .before .before .before .before in
@@ -216,12 +171,6 @@ array-set-from-rows : tie.Need-array-set-from-rows Inv-loop μ-loop
 array-set-from-rows c =
     let c15 = c .before .before .before .before .before .before .before .before .before .before .before .before .before .before .before in
     omega (arith, c15 .pre)
-
-add-i : tie.Need-add-i Inv-loop μ-loop
-add-i c = omega arith
-
-loop-less : tie.Need-loop-less Inv-loop μ-loop
-loop-less c = omega arith
 
 loop-again : tie.Need-loop-again Inv-loop μ-loop
 loop-again c =
@@ -243,28 +192,28 @@ read-rows-spec =
     (tie.spec
     Inv-loop
     μ-loop
-    row-of-requires
+    (λ c κs. search needs)
     loop-holds
-    read-head-requires
-    enum-known-v
-    no-rows-requires
+    (λ c κs. c .before .loop .inv .room)
+    (λ c. search needs)
+    (λ c κs. search needs)
     returns
-    enum-known-row
-    add-end
-    cast-a
-    cast-e
-    mul-times
-    sub-read-times
-    part-times-start
+    (λ c. search needs)
+    (λ c. omega (arith, row-of-head (c .before .before) .room))
+    (λ c. omega (arith, row-of-head (c .before .before) .room))
+    (λ c. omega (arith, row-of-head (c .before .before) .room))
+    (λ c. omega (arith, row-of-head (c .before .before) .room))
+    (λ c. omega (arith, row-of-head (c .before .before) .room))
+    (λ c. omega (arith, row-of-head (c .before .before) .room))
     part-times-end
-    read-times-requires
-    enum-known-v-2
-    no-rows-requires-2
+    (λ c κs. rw (slot-of (c .before .before .before)) (row-of-head (c .before .before .before) .parts .most))
+    (λ c. search needs)
+    (λ c κs. search needs)
     returns-2
-    enum-known-q
+    (λ c. search needs)
     mul-rows
     array-set-from-rows
-    add-i
-    loop-less
+    (λ c. omega arith)
+    (λ c. omega arith)
     loop-again
     returns-3)
