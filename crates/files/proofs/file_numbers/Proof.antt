@@ -173,9 +173,8 @@ put-row-requires c κs =
 
 loop-again : tie.Need-loop-again Inv-loop μ-loop
 loop-again c =
-    let c3 = c .before .before .before in
-    let c9 = c3 .before .before .before .before .before .before in
-    turn (c9 .before .loop .inv) (here c9) _ (c3 .put-row .ensures)
+    let c9 = c .before .before .before .before .before .before .before .before .before in
+    turn (c9 .before .loop .inv) (here c9) _ (c .before .before .before .put-row .ensures)
 
 same-length : tie.Need-same-length Inv-loop μ-loop
 same-length c = long (c .before .loop .inv) ∙ sym (c .before .before .before .before .pre .1)

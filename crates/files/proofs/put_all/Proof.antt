@@ -73,15 +73,12 @@ add-p : tie.Need-add-p Inv-loop μ-loop
 add-p c =
     let c2 = c .before .before in
     let c5 = c2 .before .before .before in
-    let c6 = c5 .before in
-    omega (arith, fits-here (c6 .loop .inv) (c5 .loop-test .taken) _ _ (c2 .put-number .ensures), long (c6 .loop .inv))
+    omega (arith, fits-here (c5 .before .loop .inv) (c5 .loop-test .taken) _ _ (c2 .put-number .ensures), long (c5 .before .loop .inv))
 
 loop-again : tie.Need-loop-again Inv-loop μ-loop
 loop-again c =
     let c2 = c .before .before in
-    let c5 = c2 .before .before .before in
-    let c6 = c5 .before in
-    turn (c6 .loop .inv) (c5 .loop-test .taken) _ _ (c2 .put-number .ensures)
+    turn (c2 .before .before .before .before .loop .inv) (c2 .before .before .before .loop-test .taken) _ _ (c2 .put-number .ensures)
 
 same-length : tie.Need-same-length Inv-loop μ-loop
 same-length c = long (c .before .loop .inv)

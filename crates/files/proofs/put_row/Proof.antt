@@ -27,11 +27,10 @@ same-length c = search needs
 
 returns : tie.Need-returns
 returns c =
-    let c2 = c .before .before in
-    let c6 = c2 .before .before .before .before in
+    let c6 = c .before .before .before .before .before .before in
     let c9 = c6 .before .before .before in
     let c12 = c9 .before .before .before in
-    both-put _ _ (c12 .args .times .now) _ _ _ (c9 .fields-of .ensures) (c12 .pre) (c6 .copy .ensures) (c2 .copy2 .ensures)
+    both-put _ _ (c12 .args .times .now) _ _ _ (c9 .fields-of .ensures) (c12 .pre) (c6 .copy .ensures) (c .before .before .copy2 .ensures)
 
 pub put-row-spec : {M : Type 1} → statement M
 put-row-spec =

@@ -65,8 +65,7 @@ returns c = c .refuse .ensures ∙ stops _ _ _ (c .before .before .before .befor
 returns-2 : tie.Need-returns-2
 returns-2 c =
     let c3 = c .before .before .before in
-    let c5 = c3 .before .before in
-    ends _ _ _ (c5 .read-rows .ensures) _ _ (c3 .next2 .given .1) (c .read-end .ensures)
+    ends _ _ _ (c3 .before .before .read-rows .ensures) _ _ (c3 .next2 .given .1) (c .read-end .ensures)
 
 pub read-body-spec : {M : Type 1} → statement M
 read-body-spec =

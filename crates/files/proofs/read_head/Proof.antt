@@ -62,30 +62,22 @@ module _ (used : ℕ) (s : List ℕ) (at : ℕ) where
 returns : tie.Need-returns
 unfolding lows highs
 returns c =
-    let c1 = c .before in
-    let c4 = c1 .before .before .before in
-    plain-stops _ _ _ _ refl _ _ (c4 .read-fields .ensures) _ (c1 .v .given .1)
+    plain-stops _ _ _ _ refl _ _ (c .before .before .before .before .read-fields .ensures) _ (c .before .v .given .1)
 
 returns-2 : tie.Need-returns-2
 unfolding lows highs
 returns-2 c =
-    let c1 = c .before in
-    let c3 = c1 .before .before in
-    let c5 = c3 .before .before in
-    let c8 = c5 .before .before .before in
-    count-stops _ _ _ _ refl _ _ (c8 .read-fields .ensures) _ (c5 .p .given .1) _
-    (refused-field _ _ (sym (c1 .v2 .given .1) ∙ c3 .read-field .ensures))
+    let c5 = c .before .before .before .before .before in
+    count-stops _ _ _ _ refl _ _ (c5 .before .before .before .read-fields .ensures) _ (c5 .p .given .1) _
+    (refused-field _ _ (sym (c .before .v2 .given .1) ∙ c .before .before .before .read-field .ensures))
 
 returns-3 : tie.Need-returns-3
 unfolding lows highs
 returns-3 c =
-    let c2 = c .before .before in
-    let c4 = c2 .before .before in
-    let c6 = c4 .before .before in
-    let c9 = c6 .before .before .before in
-    ap (λ (row : Row). H.Got row (c2 .value .given .0 .1 .0)) (c .row-of .ensures)
-    ∙ ends _ _ _ _ refl _ _ (c9 .read-fields .ensures) _ (c6 .p .given .1) _ _
-    (got-field _ _ _ (sym (c2 .value .given .1) ∙ c4 .read-field .ensures))
+    let c6 = c .before .before .before .before .before .before in
+    ap (λ (row : Row). H.Got row (c .before .before .value .given .0 .1 .0)) (c .row-of .ensures)
+    ∙ ends _ _ _ _ refl _ _ (c6 .before .before .before .read-fields .ensures) _ (c6 .p .given .1) _ _
+    (got-field _ _ _ (sym (c .before .before .value .given .1) ∙ c .before .before .before .before .read-field .ensures))
 
 pub read-head-spec : {M : Type 1} → statement M
 read-head-spec =

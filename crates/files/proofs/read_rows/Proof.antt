@@ -103,23 +103,18 @@ got-row : (c : tie.After-row Inv-loop μ-loop) → let l = c .before .before .be
     GotHead (fieldsAt (head (l .loop .used)) [] (l .before .before .before .args .bytes .now) (l .loop .p)) (c .row .given .0 .0)
     (c .row .given .0 .1 .0)
 got-row c =
-    let c2 = c .before .before in
-    got-head _ _ _ (sym (c .row .given .1) ∙ c2 .read-head .ensures)
+    got-head _ _ _ (sym (c .row .given .1) ∙ c .before .before .read-head .ensures)
 
 row-of-head : (c : tie.After-row Inv-loop μ-loop) → GoodHead (c .before .before .before .before .loop .used) (c .row .given .0 .0)
 row-of-head c =
     let c3 = c .before .before .before in
-    let c4 = c3 .before in
-    let c7 = c4 .before .before .before in
-    good-row (c4 .loop .inv) (c7 .pre) (c3 .loop-test .taken) (got-row c)
+    good-row (c3 .before .loop .inv) (c3 .before .before .before .before .pre) (c3 .loop-test .taken) (got-row c)
 
 slot-of : (c : tie.After-row Inv-loop μ-loop) → let l = c .before .before .before .before .loop in let parts = c .row .given .0 .0 .parts in
     length (take (l .used + parts - l .used) (drop (l .used) (l .times))) ≡ parts
 slot-of c =
     let c3 = c .before .before .before in
-    let c4 = c3 .before in
-    let c7 = c4 .before .before .before in
-    slot (c4 .loop .inv) (c7 .pre) (c3 .loop-test .taken) (got-row c)
+    slot (c3 .before .loop .inv) (c3 .before .before .before .before .pre) (c3 .loop-test .taken) (got-row c)
 
 loop-holds : tie.Need-loop-holds Inv-loop μ-loop
 unfolding each
@@ -134,13 +129,9 @@ loop-holds c =
 
 returns : tie.Need-returns Inv-loop μ-loop
 returns c =
-    let c2 = c .before .before in
-    let c4 = c2 .before .before in
-    let c5 = c4 .before in
-    let c6 = c5 .before in
-    let c9 = c6 .before .before .before in
-    c .no-rows .ensures ∙ head-stops (c6 .loop .inv) (c9 .pre) (c5 .loop-test .taken) _
-    (refused-head _ _ (sym (c2 .v .given .1) ∙ c4 .read-head .ensures))
+    let c5 = c .before .before .before .before .before in
+    c .no-rows .ensures ∙ head-stops (c5 .before .loop .inv) (c5 .before .before .before .before .pre) (c5 .loop-test .taken) _
+    (refused-head _ _ (sym (c .before .before .v .given .1) ∙ c .before .before .before .before .read-head .ensures))
 
 part-times-end : tie.Need-part-times-end Inv-loop μ-loop
 part-times-end c =
@@ -154,13 +145,11 @@ part-times-end c =
 returns-2 : tie.Need-returns-2 Inv-loop μ-loop
 returns-2 c =
     let c2 = c .before .before in
-    let c5 = c2 .before .before .before in
-    let c9 = c5 .before .before .before .before in
+    let c9 = c2 .before .before .before .before .before .before .before in
     let c12 = c9 .before .before .before in
     let c13 = c12 .before in
-    let c16 = c13 .before .before .before in
-    c .no-rows2 .ensures ∙ times-stops (c13 .loop .inv) (c16 .pre) (c12 .loop-test .taken) (got-row (c9)) _
-    (rw (slot-of (c9)) at (into-refused _ (rw (c2 .v2 .given .1) at (c5 .read-times .ensures))))
+    c .no-rows2 .ensures ∙ times-stops (c13 .loop .inv) (c13 .before .before .before .pre) (c12 .loop-test .taken) (got-row (c9)) _
+    (rw (slot-of (c9)) at (into-refused _ (rw (c2 .v2 .given .1) at (c2 .before .before .before .read-times .ensures))))
 
 mul-rows : tie.Need-mul-rows Inv-loop μ-loop
 mul-rows c =
@@ -174,14 +163,11 @@ array-set-from-rows c =
 
 loop-again : tie.Need-loop-again Inv-loop μ-loop
 loop-again c =
-    let c1 = c .before in
-    let c4 = c1 .before .before .before in
+    let c4 = c .before .before .before .before in
     let c8 = c4 .before .before .before .before in
     let c11 = c8 .before .before .before in
-    let c12 = c11 .before in
-    let c15 = c12 .before .before .before in
-    turn (c12 .loop .inv) (c15 .pre) (c11 .loop-test .taken) (got-row (c8)) _ _
-    (rw (slot-of (c8)) at (into-at _ (length-replicate _ time) (rw (c1 .q .given .1) at (c4 .read-times .ensures))))
+    turn (c11 .before .loop .inv) (c11 .before .before .before .before .pre) (c11 .loop-test .taken) (got-row (c8)) _ _
+    (rw (slot-of (c8)) at (into-at _ (length-replicate _ time) (rw (c .before .q .given .1) at (c4 .read-times .ensures))))
 
 returns-3 : tie.Need-returns-3 Inv-loop μ-loop
 returns-3 c = ends (c .before .loop .inv) (c .loop-test .left)

@@ -22,9 +22,8 @@ same-length c = search needs
 
 returns : tie.Need-returns
 returns c =
-    let c2 = c .before .before in
-    let c8 = c2 .before .before .before .before .before .before in
-    same-range _ _ _ _ _ _ (c8 .pre) (c2 .read-fields .ensures)
+    let c8 = c .before .before .before .before .before .before .before .before in
+    same-range _ _ _ _ _ _ (c8 .pre) (c .before .before .read-fields .ensures)
 
 pub read-times-spec : {M : Type 1} → statement M
 read-times-spec =

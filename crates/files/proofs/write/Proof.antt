@@ -31,16 +31,13 @@ fault-free c = sym (ap codeOf (c .before .before .fault-of .ensures)) ∙ (sym (
 returns : tie.Need-returns
 returns c =
     let c2 = c .before .before in
-    let c3 = c2 .before in
-    rw (c .refused .ensures) (refuses-fault _ _ _ _ _ (c3 .fault-of .ensures) (c2 .code-of .ensures) (c .before .if1 .taken))
+    rw (c .refused .ensures) (refuses-fault _ _ _ _ _ (c2 .before .fault-of .ensures) (c2 .code-of .ensures) (c .before .if1 .taken))
 
 returns-2 : tie.Need-returns-2
 returns-2 c =
-    let c2 = c .before .before in
-    let c5 = c2 .before .before .before in
-    let c7 = c5 .before .before in
-    let size = sym (c2 .size-of-all .ensures ∙ ap length (file-is _ _ _ _ (c5 .file-numbers .ensures))) in
-    rw (c .refused2 .ensures) (refuses-room _ _ _ (fault-free c7) _ size (c .before .if2 .taken))
+    let c5 = c .before .before .before .before .before in
+    let size = sym (c .before .before .size-of-all .ensures ∙ ap length (file-is _ _ _ _ (c5 .file-numbers .ensures))) in
+    rw (c .refused2 .ensures) (refuses-room _ _ _ (fault-free (c5 .before .before)) _ size (c .before .if2 .taken))
 
 slice-aggregate-put-all : tie.Need-slice-aggregate-put-all
 slice-aggregate-put-all c =
@@ -52,13 +49,10 @@ same-length c = search needs
 returns-3 : tie.Need-returns-3
 returns-3 c =
     let c2 = c .before .before in
-    let c5 = c2 .before .before .before in
-    let c6 = c5 .before in
-    let c9 = c6 .before .before .before in
-    let c11 = c9 .before .before in
+    let c9 = c2 .before .before .before .before .before .before .before in
     let file = file-is _ _ _ _ (c9 .file-numbers .ensures) in
-    let size = sym (c6 .size-of-all .ensures ∙ ap length file) in
-    writes-all _ _ _ (fault-free c11) _ size (c5 .if2 .left) _ (c2 .put-all .ensures ∙ rw file)
+    let size = sym (c2 .before .before .before .before .size-of-all .ensures ∙ ap length file) in
+    writes-all _ _ _ (fault-free (c9 .before .before)) _ size (c2 .before .before .before .if2 .left) _ (c2 .put-all .ensures ∙ rw file)
 
 pub write-spec : {M : Type 1} → statement M
 write-spec =

@@ -9,17 +9,15 @@ use Rattle.table.proofs.breaks_rule.Tie as tie
 returns : tie.Need-returns
 unfolding breaks
 returns c =
-    let c2 = c .before .before in
-    let c5 = c2 .before .before .before in
-    rw (c5 .enum-told3 .given .1, eq-eqb _ _ (c2 .if2 .taken), sym (c .before .coop-above .ensures) ∙ c .if3 .taken)
+    let c5 = c .before .before .before .before .before in
+    rw (c5 .enum-told3 .given .1, eq-eqb _ _ (c .before .before .if2 .taken), sym (c .before .coop-above .ensures) ∙ c .if3 .taken)
 
 returns-2 : tie.Need-returns-2
 unfolding breaks
 returns-2 c =
     let c2 = c .before .before in
-    let c3 = c2 .before in
-    let c6 = c3 .before .before .before in
-    rw (c6 .enum-told3 .given .1, eq-eqb _ _ (c3 .if2 .taken), sym (c2 .coop-above .ensures) ∙ c .before .if3 .left)
+    let c6 = c2 .before .before .before .before in
+    rw (c6 .enum-told3 .given .1, eq-eqb _ _ (c2 .before .if2 .taken), sym (c2 .coop-above .ensures) ∙ c .before .if3 .left)
     (c .coop-above2 .ensures)
 
 returns-3 : tie.Need-returns-3

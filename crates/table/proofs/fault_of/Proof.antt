@@ -14,17 +14,14 @@ returns-2 : tie.Need-returns-2
 unfolding faultOf
 returns-2 c =
     let c2 = c .before .before in
-    let c3 = c2 .before in
-    rw (le-ltb _ _ (c3 .if1 .left)) (fault-stays (c2 .rows-fault .ensures) (c .before .code-of .ensures) _ (c .if2 .taken))
+    rw (le-ltb _ _ (c2 .before .if1 .left)) (fault-stays (c2 .rows-fault .ensures) (c .before .code-of .ensures) _ (c .if2 .taken))
 
 returns-3 : tie.Need-returns-3
 unfolding faultOf
 returns-3 c =
     let c2 = c .before .before in
-    let c3 = c2 .before in
-    let c4 = c3 .before in
-    rw (le-ltb _ _ (c4 .if1 .left))
-    (next-decides (c3 .rows-fault .ensures) (c2 .code-of .ensures) (c .before .if2 .left) (c .clash-of .ensures))
+    rw (le-ltb _ _ (c2 .before .before .if1 .left))
+    (next-decides (c2 .before .rows-fault .ensures) (c2 .code-of .ensures) (c .before .if2 .left) (c .clash-of .ensures))
 
 pub fault-of-spec : {M : Type 1} → statement M
 fault-of-spec =

@@ -89,8 +89,7 @@ loop-holds c = record { upto = search needs; same = refl }
 loop-again : tie.Need-loop-again Inv-loop μ-loop Inv-rows μ-rows
 loop-again c =
     let c3 = c .before .before .before in
-    let c4 = c3 .before in
-    let inner = c4 in
+    let inner = (c3 .before) in
     let rows = inner .before .before .before in
     next-earlier _ _ _ _ (rows .rows .inv) (inner .before .before .rows-test .taken) _ (inner .loop .inv) (c3 .loop-test .taken)
     (sym (c .before .breaks-rule .ensures) ∙ c .if1 .left)
@@ -107,8 +106,7 @@ returns c = nowhere _ _ _ _ (c .before .rows .inv) (c .rows-test .left)
 returns-2 : tie.Need-returns-2 Inv-loop μ-loop Inv-rows μ-rows
 returns-2 c =
     let c3 = c .before .before .before in
-    let c4 = c3 .before in
-    let inner = c4 in
+    let inner = (c3 .before) in
     let rows = inner .before .before .before in
     here _ _ _ _ (rows .rows .inv) (inner .before .before .rows-test .taken) _ (inner .loop .inv) (c3 .loop-test .taken)
     (sym (c .before .breaks-rule .ensures) ∙ c .if1 .taken)

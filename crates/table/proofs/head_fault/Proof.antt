@@ -37,17 +37,15 @@ first-fault-requires c κs =
 returns : tie.Need-returns
 unfolding lows highs
 returns c =
-    let c2 = c .before .before in
-    let c6 = c2 .before .before .before .before in
-    let said = plain (c6 .before .args .i) _ _ _ (c6 .fields-of .ensures) (c2 .first-fault .ensures) in
+    let c6 = c .before .before .before .before .before .before in
+    let said = plain (c6 .before .args .i) _ _ _ (c6 .fields-of .ensures) (c .before .before .first-fault .ensures) in
     fault-stays said (c .before .code-of .ensures) _ (c .if1 .taken) ∙ sym (in-two _ _ _)
 
 returns-2 : tie.Need-returns-2
 unfolding lows highs
 returns-2 c =
-    let c3 = c .before .before .before in
-    let c7 = c3 .before .before .before .before in
-    let said = plain (c7 .before .args .i) _ _ _ (c7 .fields-of .ensures) (c3 .first-fault .ensures) in
+    let c7 = c .before .before .before .before .before .before .before in
+    let said = plain (c7 .before .args .i) _ _ _ (c7 .fields-of .ensures) (c .before .before .before .first-fault .ensures) in
     next-decides said (c .before .before .code-of .ensures) (c .before .if1 .left) (c .number-fault .ensures) ∙ sym (in-two _ _ _)
 
 pub head-fault-spec : {M : Type 1} → statement M

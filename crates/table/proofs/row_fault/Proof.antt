@@ -16,14 +16,12 @@ use Rattle.table.proofs.row_fault.Tie as tie
 -- its fields are in their ranges
 good-fields : (c : tie.Else1) → GoodHead (c .before .before .before .before .args .used) (c .before .before .before .before .args .row)
 good-fields c =
-    let c2 = c .before .before in
-    head-found _ _ _ (sym (ap codeOf (c2 .head-fault .ensures)) ∙ (sym (c .before .code-of .ensures) ∙ c .if1 .left))
+    head-found _ _ _ (sym (ap codeOf (c .before .before .head-fault .ensures)) ∙ (sym (c .before .code-of .ensures) ∙ c .if1 .left))
 
 -- its times lie within the table's
 room-of : (c : tie.Else1) → let a = c .before .before .before .before .args in a .used + a .row .parts ≤ length (now (a .times))
 room-of c =
-    let c4 = c .before .before .before .before in
-    omega (arith, good-fields c .room, c4 .pre .1)
+    omega (arith, good-fields c .room, c .before .before .before .before .pre .1)
 
 returns : tie.Need-returns
 unfolding rowFault
@@ -37,9 +35,7 @@ returns-2 : tie.Need-returns-2
 unfolding rowFault
 returns-2 c =
     let c3 = c .before .before .before in
-    let c4 = c3 .before in
-    let c5 = c4 .before in
-    next-decides (c5 .head-fault .ensures) (c4 .code-of .ensures) (c3 .if1 .left)
+    next-decides (c3 .before .before .head-fault .ensures) (c3 .before .code-of .ensures) (c3 .if1 .left)
     (c .times-fault .ensures ∙ rw (part-length _ _ _ (room-of (c3)), part-is))
 
 pub row-fault-spec : {M : Type 1} → statement M

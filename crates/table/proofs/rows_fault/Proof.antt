@@ -74,8 +74,7 @@ returns : tie.Need-returns Inv-loop μ-loop
 returns c =
     let c2 = c .before .before in
     let c5 = c2 .before .before .before in
-    let c6 = c5 .before in
-    stops (c6 .loop .inv) (c5 .loop-test .taken) _ _ (c2 .row-fault .ensures) (c .before .code-of .ensures) (c .if1 .taken)
+    stops (c5 .before .loop .inv) (c5 .loop-test .taken) _ _ (c2 .row-fault .ensures) (c .before .code-of .ensures) (c .if1 .taken)
 
 add-used : tie.Need-add-used Inv-loop μ-loop
 add-used c =
@@ -88,10 +87,8 @@ add-used c =
 loop-again : tie.Need-loop-again Inv-loop μ-loop
 loop-again c =
     let c2 = c .before .before in
-    let c3 = c2 .before in
-    let c6 = c3 .before .before .before in
-    let c7 = c6 .before in
-    turn (c7 .loop .inv) (c6 .loop-test .taken) _ _ (c3 .row-fault .ensures) (c2 .code-of .ensures) (c .before .if1 .left)
+    let c6 = c2 .before .before .before .before in
+    turn (c6 .before .loop .inv) (c6 .loop-test .taken) _ _ (c2 .before .row-fault .ensures) (c2 .code-of .ensures) (c .before .if1 .left)
 
 returns-2 : tie.Need-returns-2 Inv-loop μ-loop
 returns-2 c = ends (c .before .loop .inv) (c .loop-test .left)

@@ -36,8 +36,7 @@ all-of c =
 returns : tie.Need-returns
 returns c =
     let c2 = c .before .before in
-    let c3 = c2 .before in
-    c .verdict-on .ensures ∙ hit _ _ (c3 .first-clash .ensures) (all-of (c2)) (c .before .if1 .taken)
+    c .verdict-on .ensures ∙ hit _ _ (c2 .before .first-clash .ensures) (all-of (c2)) (c .before .if1 .taken)
 
 returns-2 : tie.Need-returns-2
 returns-2 c = none _ _ (c .before .before .first-clash .ensures) (all-of (c .before)) (c .if1 .left)
