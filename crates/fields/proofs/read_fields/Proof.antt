@@ -84,13 +84,6 @@ loop-holds c =
       before = refl;
     }
 
-shared-slice-read-read-field : tie.Need-shared-slice-read-read-field Inv-loop μ-loop
-shared-slice-read-read-field c =
-    let k = c .before .before .before .loop .inv in omega (arith, k .ranges .lows, long k)
-
-same-length : tie.Need-same-length Inv-loop μ-loop
-same-length c = long (c .before .before .before .before .before .before .before .loop .inv)
-
 returns : tie.Need-returns Inv-loop μ-loop
 returns c =
     let c3 = c .before .before .before in
@@ -103,12 +96,6 @@ loop-again c =
     let c6 = c3 .before .before .before in
     turn (c6 .before .loop .inv) (c6 .loop-test .taken) _ _ (got-field _ _ _ (sym (c .before .value .given .1) ∙ c3 .read-field .ensures))
 
-same-length-2 : tie.Need-same-length-2 Inv-loop μ-loop
-same-length-2 c = long (c .before .loop .inv)
-
-returns-2 : tie.Need-returns-2 Inv-loop μ-loop
-returns-2 c = ends (c .before .loop .inv) (c .loop-test .left)
-
 pub read-fields-spec : {M : Type 1} → statement M
 read-fields-spec =
     tie.close
@@ -119,10 +106,10 @@ read-fields-spec =
     (λ c. omega (arith, long (c .before .loop .inv)))
     (λ c. omega (arith, c .before .before .loop .inv .ranges .highs, long (c .before .before .loop .inv)))
     (λ c. omega (arith, long (c .before .before .loop .inv)))
-    shared-slice-read-read-field
+    (λ c. let k = c .before .before .before .loop .inv in omega (arith, k .ranges .lows, long k))
     (λ c κs. search needs)
     (λ c. search needs)
-    same-length
+    (λ c. long (c .before .before .before .before .before .before .before .loop .inv))
     returns
     (λ c. search needs)
     (λ c. omega (arith, long (c .before .before .before .before .before .before .before .loop .inv)))
@@ -130,5 +117,5 @@ read-fields-spec =
     (λ c. omega (arith, long (c .before .before .before .before .before .before .before .loop .inv)))
     (λ c. omega (arith, long (c .before .before .before .before .before .before .before .loop .inv)))
     loop-again
-    same-length-2
-    returns-2)
+    (λ c. long (c .before .loop .inv))
+    (λ c. ends (c .before .loop .inv) (c .loop-test .left)))

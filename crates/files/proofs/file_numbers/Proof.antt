@@ -155,9 +155,6 @@ room-here c =
     let l = c .before .loop .inv in
     record { times = search needs; within = here c .room; size = long l; numbers = fits l (here c) }
 
-loop-holds : tie.Need-loop-holds Inv-loop μ-loop
-loop-holds c = let a = c .before .before in starts _ (a .args .out .now) (in-memory a) (a .pre .1) (a .pre .0)
-
 put-row-requires : tie.Need-put-row-requires Inv-loop μ-loop
 put-row-requires c κs =
     let c5 = c .before .before .before .before .before in
@@ -167,9 +164,6 @@ loop-again : tie.Need-loop-again Inv-loop μ-loop
 loop-again c =
     let c9 = c .before .before .before .before .before .before .before .before .before in
     turn (c9 .before .loop .inv) (here c9) _ (c .before .before .before .put-row .ensures)
-
-same-length : tie.Need-same-length Inv-loop μ-loop
-same-length c = long (c .before .loop .inv) ∙ sym (c .before .before .before .before .pre .1)
 
 returns : tie.Need-returns Inv-loop μ-loop
 returns c =
@@ -184,7 +178,7 @@ file-numbers-spec =
     μ-loop
     (λ c. let a = c .before .before in let m = in-memory a in omega (arith, count-few _ (m .rows) (m .times) (a .pre .0)))
     (λ c. omega (arith, c .before .before .pre .1))
-    loop-holds
+    (λ c. let a = c .before .before in starts _ (a .args .out .now) (in-memory a) (a .pre .1) (a .pre .0))
     (λ c. omega (arith, c .before .loop .inv .ahead .few))
     (λ c. omega (arith, c .before .loop .inv .ahead .few))
     (λ c. search needs)
@@ -204,5 +198,5 @@ file-numbers-spec =
     (λ c. search needs)
     (λ c. search needs)
     loop-again
-    same-length
+    (λ c. long (c .before .loop .inv) ∙ sym (c .before .before .before .before .pre .1))
     returns)

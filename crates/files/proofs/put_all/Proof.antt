@@ -80,12 +80,6 @@ loop-again c =
     let c2 = c .before .before in
     turn (c2 .before .before .before .before .loop .inv) (c2 .before .before .before .loop-test .taken) _ _ (c2 .put-number .ensures)
 
-same-length : tie.Need-same-length Inv-loop μ-loop
-same-length c = long (c .before .loop .inv)
-
-returns : tie.Need-returns Inv-loop μ-loop
-returns c = ends (c .before .loop .inv) (c .loop-test .left)
-
 pub put-all-spec : {M : Type 1} → statement M
 put-all-spec =
     tie.close
@@ -103,5 +97,5 @@ put-all-spec =
     (λ c. search needs)
     (λ c. search needs)
     loop-again
-    same-length
-    returns)
+    (λ c. long (c .before .loop .inv))
+    (λ c. ends (c .before .loop .inv) (c .loop-test .left)))

@@ -22,9 +22,6 @@ both-put row fields times out first part own room one two =
     new-behind (fieldsOf row) out times first 7 front (omega arith) room part two
     ∙ sym (over-sets (fieldsOf row ++ times) out (rw length-append room))
 
-same-length : tie.Need-same-length
-same-length c = search needs
-
 returns : tie.Need-returns
 returns c =
     let c6 = c .before .before .before .before .before .before in
@@ -43,5 +40,5 @@ put-row-spec =
     (λ c. search needs)
     (λ c. search needs)
     (λ c κs. search needs)
-    same-length
+    (λ c. search needs)
     returns)

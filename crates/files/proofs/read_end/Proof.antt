@@ -35,9 +35,6 @@ module _ (s : List ℕ) (at : ℕ) (t : Table) where
     unfolding closed
     fine e = rw (le-ltb at (length s) all, ← said, is-good v (sym code ∙ e))
 
-returns : tie.Need-returns
-returns c = c .refuse .ensures ∙ past _ _ _ (c .before .if1 .taken)
-
 returns-2 : tie.Need-returns-2
 returns-2 c =
     let c2 = c .before .before in
@@ -54,7 +51,7 @@ read-end-spec =
     tie.close
     (tie.spec
     (λ c κs. search needs)
-    returns
+    (λ c. c .refuse .ensures ∙ past _ _ _ (c .before .if1 .taken))
     (λ c κs. search needs)
     (λ c κs. search needs)
     (λ c κs. search needs)

@@ -151,9 +151,6 @@ loop-again c =
     let g = got-row (c4 .before .before .before .before) in
     turn g _ _ (rw (slot g) at (into-at _ (length-replicate _ time) (rw (c .before .q .given .1) at (c4 .read-times .ensures))))
 
-returns-3 : tie.Need-returns-3 Inv-loop μ-loop
-returns-3 c = ends (c .before .loop .inv) (c .loop-test .left)
-
 pub read-rows-spec : {M : Type 1} → statement M
 read-rows-spec =
     tie.close
@@ -184,4 +181,4 @@ read-rows-spec =
     (λ c. omega arith)
     (λ c. omega arith)
     loop-again
-    returns-3)
+    (λ c. ends (c .before .loop .inv) (c .loop-test .left)))

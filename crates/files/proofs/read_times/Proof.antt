@@ -17,9 +17,6 @@ same-range : (n : ℕ) (s : List ℕ) (at : ℕ) (out : List ℕ) (r : Next) (ou
     → ReadInto (replicate n time) s at out r out′
 same-range n s at out r out′ h f = rw (wanted-same 1 16777215 n 64 h) at f
 
-same-length : tie.Need-same-length
-same-length c = search needs
-
 returns : tie.Need-returns
 returns c =
     let c8 = c .before .before .before .before .before .before .before .before in
@@ -34,5 +31,5 @@ read-times-spec =
     (λ c. search needs)
     (λ c. sym (length-same 16777215 _ 64 (c .before .before .before .before .pre)))
     (λ c κs. ranges-same 1 16777215 _ 64 (c .before .before .before .before .before .pre))
-    same-length
+    (λ c. search needs)
     returns)

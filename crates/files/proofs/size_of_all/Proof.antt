@@ -47,12 +47,6 @@ add-size c =
     let c5 = c3 .before .before in
     omega (arith, c3 .loop .inv .few, c .size-of .ensures, encode-few (getD (c5 .args .numbers .now) (c3 .loop .i) 0), c5 .pre)
 
-loop-again : tie.Need-loop-again Inv-loop μ-loop
-loop-again c = turn (c .before .before .before .loop .inv) (c .before .before .loop-test .taken) _ (c .size-of .ensures)
-
-returns : tie.Need-returns Inv-loop μ-loop
-returns c = ends (c .before .loop .inv) (c .loop-test .left)
-
 pub size-of-all-spec : {M : Type 1} → statement M
 size-of-all-spec =
     tie.close
@@ -66,5 +60,5 @@ size-of-all-spec =
     add-size
     (λ c. search needs)
     (λ c. search needs)
-    loop-again
-    returns)
+    (λ c. turn (c .before .before .before .loop .inv) (c .before .before .loop-test .taken) _ (c .size-of .ensures))
+    (λ c. ends (c .before .loop .inv) (c .loop-test .left)))

@@ -43,9 +43,6 @@ slice-aggregate-put-all : tie.Need-slice-aggregate-put-all
 slice-aggregate-put-all c =
     sym (length-take-le _ _ (omega (arith, c .before .before .before .before .before .before .file-numbers .ensures .fits)))
 
-same-length : tie.Need-same-length
-same-length c = search needs
-
 returns-3 : tie.Need-returns-3
 returns-3 c =
     let c2 = c .before .before in
@@ -72,5 +69,5 @@ write-spec =
     (λ c. omega (arith, c .before .before .before .before .before .file-numbers .ensures .fits))
     slice-aggregate-put-all
     (λ c κs. search needs)
-    same-length
+    (λ c. search needs)
     returns-3)

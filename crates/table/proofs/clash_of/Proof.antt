@@ -5,10 +5,6 @@ use Rattle.table.proofs.Codes.{fault-stays, next-decides}
 use Rattle.table.proofs.clash_of.Statement.{statement}
 use Rattle.table.proofs.clash_of.Tie as tie
 
-returns : tie.Need-returns
-unfolding clashOf
-returns c = fault-stays (c .before .before .rule-broken .ensures) (c .before .code-of .ensures) _ (c .if1 .taken)
-
 returns-2 : tie.Need-returns-2
 unfolding clashOf
 returns-2 c =
@@ -29,7 +25,7 @@ clash-of-spec =
     (tie.spec
     (λ c κs. search needs)
     (λ c κs. search needs)
-    returns
+    (λ c. unfold clashOf in fault-stays (c .before .before .rule-broken .ensures) (c .before .code-of .ensures) _ (c .if1 .taken))
     (λ c κs. search needs)
     (λ c κs. search needs)
     returns-2

@@ -6,10 +6,6 @@ use Rattle.table.proofs.Codes.{fault-stays, next-decides}
 use Rattle.table.proofs.fault_of.Statement.{statement}
 use Rattle.table.proofs.fault_of.Tie as tie
 
-returns : tie.Need-returns
-unfolding faultOf
-returns c = rw (lt-ltb _ _ (c .if1 .taken))
-
 returns-2 : tie.Need-returns-2
 unfolding faultOf
 returns-2 c =
@@ -26,4 +22,10 @@ returns-3 c =
 pub fault-of-spec : {M : Type 1} → statement M
 fault-of-spec =
     tie.close
-    (tie.spec returns (λ c κs. search needs) (λ c κs. search needs) returns-2 (λ c κs. search needs) returns-3)
+    (tie.spec
+    (λ c. unfold faultOf in rw (lt-ltb _ _ (c .if1 .taken)))
+    (λ c κs. search needs)
+    (λ c κs. search needs)
+    returns-2
+    (λ c κs. search needs)
+    returns-3)

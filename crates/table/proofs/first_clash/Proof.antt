@@ -91,12 +91,6 @@ loop-again c =
     let c3 = c .before .before .before in
     next-earlier (c3 .before .loop .inv) (c3 .loop-test .taken) (sym (c .before .breaks-rule .ensures) ∙ c .if1 .left)
 
-rows-again : tie.Need-rows-again Inv-loop μ-loop Inv-rows μ-rows
-rows-again c = next-row (c .before .loop .inv) (c .loop-test .left)
-
-returns : tie.Need-returns Inv-loop μ-loop Inv-rows μ-rows
-returns c = nowhere (c .before .rows .inv) (c .rows-test .left)
-
 returns-2 : tie.Need-returns-2 Inv-loop μ-loop Inv-rows μ-rows
 returns-2 c =
     let c3 = c .before .before .before in
@@ -123,6 +117,6 @@ first-clash-spec =
     loop-again
     (λ c. omega arith)
     (λ c. omega arith)
-    rows-again
-    returns
+    (λ c. next-row (c .before .loop .inv) (c .loop-test .left))
+    (λ c. nowhere (c .before .rows .inv) (c .rows-test .left))
     returns-2)

@@ -61,9 +61,6 @@ loop-again c =
     let c6 = c2 .before .before .before .before in
     turn (c6 .before .loop .inv) (c6 .loop-test .taken) _ _ (c2 .number-fault .ensures) (c .before .code-of .ensures) (c .if1 .left)
 
-returns-2 : tie.Need-returns-2 Inv-loop μ-loop
-returns-2 c = ends (c .before .loop .inv) (c .loop-test .left)
-
 pub first-fault-spec : {M : Type 1} → statement M
 first-fault-spec =
     tie.close
@@ -83,4 +80,4 @@ first-fault-spec =
     (λ c. search needs)
     (λ c. search needs)
     loop-again
-    returns-2)
+    (λ c. ends (c .before .loop .inv) (c .loop-test .left)))

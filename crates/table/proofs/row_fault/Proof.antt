@@ -23,14 +23,6 @@ room-of : (c : tie.Else1) → let a = c .before .before .before .before .args in
 room-of c =
     omega (arith, good-fields c .room, c .before .before .before .before .pre .1)
 
-returns : tie.Need-returns
-unfolding rowFault
-returns c = fault-stays (c .before .before .head-fault .ensures) (c .before .code-of .ensures) _ (c .if1 .taken)
-
-times-fault-requires : tie.Need-times-fault-requires
-times-fault-requires c κs =
-    rw (part-length _ _ _ (room-of (c .before .before))) (good-fields (c .before .before) .parts .most)
-
 returns-2 : tie.Need-returns-2
 unfolding rowFault
 returns-2 c =
@@ -44,12 +36,12 @@ row-fault-spec =
     (tie.spec
     (λ c κs. search needs)
     (λ c κs. search needs)
-    returns
+    (λ c. unfold rowFault in fault-stays (c .before .before .head-fault .ensures) (c .before .code-of .ensures) _ (c .if1 .taken))
     (λ c. search needs)
     (λ c. search needs)
     (λ c. search needs)
     (λ c. search needs)
     (λ c. search needs)
     (λ c. omega (arith, room-of (c .before)))
-    times-fault-requires
+    (λ c κs. rw (part-length _ _ _ (room-of (c .before .before))) (good-fields (c .before .before) .parts .most))
     returns-2)

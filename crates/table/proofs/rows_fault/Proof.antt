@@ -90,9 +90,6 @@ loop-again c =
     let c6 = c2 .before .before .before .before in
     turn (c6 .before .loop .inv) (c6 .loop-test .taken) _ _ (c2 .before .row-fault .ensures) (c2 .code-of .ensures) (c .before .if1 .left)
 
-returns-2 : tie.Need-returns-2 Inv-loop μ-loop
-returns-2 c = ends (c .before .loop .inv) (c .loop-test .left)
-
 pub rows-fault-spec : {M : Type 1} → statement M
 rows-fault-spec =
     tie.close
@@ -110,4 +107,4 @@ rows-fault-spec =
     (λ c. omega arith)
     (λ c. omega arith)
     loop-again
-    returns-2)
+    (λ c. ends (c .before .loop .inv) (c .loop-test .left)))

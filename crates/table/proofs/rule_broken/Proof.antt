@@ -38,9 +38,12 @@ returns c =
     let c2 = c .before .before in
     c .verdict-on .ensures ∙ hit _ _ (c2 .before .first-clash .ensures) (all-of (c2)) (c .before .if1 .taken)
 
-returns-2 : tie.Need-returns-2
-returns-2 c = none _ _ (c .before .before .first-clash .ensures) (all-of (c .before)) (c .if1 .left)
-
 pub rule-broken-spec : {M : Type 1} → statement M
 rule-broken-spec =
-    tie.close (tie.spec (λ c κs. search needs) (λ c κs. search needs) (λ c κs. search needs) returns returns-2)
+    tie.close
+    (tie.spec
+    (λ c κs. search needs)
+    (λ c κs. search needs)
+    (λ c κs. search needs)
+    returns
+    (λ c. none _ _ (c .before .before .first-clash .ensures) (all-of (c .before)) (c .if1 .left)))
