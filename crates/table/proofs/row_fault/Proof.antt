@@ -20,15 +20,14 @@ good-fields c =
 
 -- its times lie within the table's
 room-of : (c : tie.Else1) → let a = c .before .before .before .before .args in a .used + a .row .parts ≤ length (now (a .times))
-room-of c =
-    omega (arith, good-fields c .room, c .before .before .before .before .pre .1)
+room-of c = omega (arith, good-fields c .room, c .before .before .before .before .pre .1)
 
 returns-2 : tie.Need-returns-2
 unfolding rowFault
 returns-2 c =
     let c3 = c .before .before .before in
     next-decides (c3 .before .before .head-fault .ensures) (c3 .before .code-of .ensures) (c3 .if1 .left)
-    (c .times-fault .ensures ∙ rw (part-length _ _ _ (room-of (c3)), part-is))
+    (c .times-fault .ensures ∙ rw (part-length _ _ _ (room-of c3), part-is))
 
 pub row-fault-spec : {M : Type 1} → statement M
 row-fault-spec =

@@ -36,7 +36,7 @@ all-of c =
 returns : tie.Need-returns
 returns c =
     let c2 = c .before .before in
-    c .verdict-on .ensures ∙ hit _ _ (c2 .before .first-clash .ensures) (all-of (c2)) (c .before .if1 .taken)
+    c .verdict-on .ensures ∙ hit _ _ (c2 .before .first-clash .ensures) (all-of c2) (c .before .if1 .taken)
 
 pub rule-broken-spec : {M : Type 1} → statement M
 rule-broken-spec =
