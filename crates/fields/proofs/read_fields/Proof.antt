@@ -4,17 +4,16 @@ use native.Mathlib.Omega.{arith}
 use borrow.Author.Needs.{needs}
 use mathlib.Core.Path.{_≡_, refl, sym, ap, _∙_}
 use mathlib.Core.List.{List, [], _∷_, _++_}
-use lib.ListN.{length, getD, drop, set, length-append}
+use lib.ListN.{length, getD, drop, set, length-append, drop-of-length-le}
 use Rattle.lists.specs.Lists.{over}
 use Rattle.lists.proofs.Overs.{over-none, over-length, over-one}
 use Rattle.table.specs.declared.Verdict.{Verdict}
 use Rattle.table.specs.Fields.{field, wanted, LowsHighs}
 use Rattle.table.proofs.FieldRanges.{wanted-more, wanted-count}
 use Rattle.fields.specs.declared.Next.the-variants.{At, Refused}
-use Rattle.fields.specs.Stepping.{stop, go, fieldAt, fieldsAt}
-use Rattle.fields.specs.Promises.{readBefore, ReadInto}
+use Rattle.fields.specs.Stepping.{stop, go, _then_, fieldAt, fieldsAt}
+use Rattle.fields.specs.Promises.{stepped, readBefore, ReadInto}
 use Rattle.fields.proofs.Steps.{got-field, refused-field}
-use Rattle.fields.proofs.Steps.{fields-more, before-more, fields-stop, before-stop, fields-none, before-none}
 use Rattle.fields.proofs.read_fields.Statement.{statement}
 use Rattle.fields.proofs.read_fields.Tie as tie
 
@@ -45,26 +44,25 @@ module _ {s : List ℕ} {at : ℕ} {low high out₀ out : List ℕ} {p i : ℕ} 
       count = rw length-append (omega (arith, f .count));
       upto = omega (arith, long);
       put = rw (f .put, f .count) (over-one (f .done) out₀ v (omega (arith, f .count, long)));
-      same = f .same ∙ fields-more (wanted low high) _ i (f .done) s p next v n e;
-      before = f .before ∙ before-more (wanted low high) _ i (f .done) s p next v n e;
+      same = f .same ∙ (unfold fieldsAt _then_ in rw (next, e));
+      before = f .before ∙ (unfold readBefore stepped in rw (next, e));
     }
 
     -- a number is refused
     halts : (v : Verdict) → fieldAt (field (getD low i 0) (getD high i 0)) s p ≡ stop v
         → ReadInto (wanted low high) s at out₀ (Refused v) out
     halts v e = record {
-      next = rw (f .same, fields-stop (wanted low high) _ i (f .done) s p next v e);
-      room = f .put ∙ rw (f .before, before-stop (wanted low high) _ i (f .done) s p next v e);
+      next = unfold fieldsAt _then_ in rw (f .same, next, e);
+      room = f .put ∙ (unfold readBefore stepped in rw (f .before, next, e));
     }
 
   -- the room is full
   ends : length out ≤ i → ReadInto (wanted low high) s at out₀ (At p) out
+  unfolding fieldsAt readBefore
   ends h =
-      let past : length (wanted low high) ≤ i = rw (wanted-count (f .ranges)) (omega (arith, long)) in
-      record {
-        next = rw (f .same, fields-none (wanted low high) i (f .done) s p past);
-        room = f .put ∙ rw (f .before, before-none (wanted low high) i (f .done) s p past);
-      }
+      let all : length (wanted low high) ≤ i = rw (wanted-count (f .ranges)) (omega (arith, long)) in
+      let none : drop i (wanted low high) ≡ [] = drop-of-length-le (wanted low high) all in
+      record { next = rw (f .same, none); room = f .put ∙ rw (f .before, none) }
 
 abbrev Inv-loop : tie.InvT-loop
 Inv-loop bytes at low high out₀ p₀ i₀ out p i = Filling bytes at low high out₀ out p i

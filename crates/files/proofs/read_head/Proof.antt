@@ -61,8 +61,7 @@ module _ (used : ℕ) (s : List ℕ) (at : ℕ) where
 
 returns : tie.Need-returns
 unfolding lows highs
-returns c =
-    plain-stops _ _ _ _ refl _ _ (c .before .before .before .before .read-fields .ensures) _ (c .before .v .given .1)
+returns c = plain-stops _ _ _ _ refl _ _ (c .before .before .before .before .read-fields .ensures) _ (c .before .v .given .1)
 
 returns-2 : tie.Need-returns-2
 unfolding lows highs

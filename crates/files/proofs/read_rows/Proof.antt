@@ -24,7 +24,7 @@ use Rattle.files.specs.Reading.{rowAt, rowsAt}
 use Rattle.files.specs.Promises.{asBody}
 use Rattle.fields.proofs.Into.{into-at, into-refused}
 use Rattle.files.proofs.Steps.{GotHead, got-head, refused-head}
-use Rattle.files.proofs.Steps.{row-more, row-fields-stop, row-times-stop, rows-more, rows-stop, rows-none}
+use Rattle.files.proofs.Steps.{row-more, row-fields-stop, row-times-stop, rows-more, rows-stop}
 use Rattle.fields.proofs.Taken.{taken-all, head-read}
 use Rattle.files.proofs.read_rows.Statement.{statement}
 use Rattle.files.proofs.read_rows.Tie as tie
@@ -39,10 +39,11 @@ record Loading (s : List ℕ) (at n : ℕ) (rows : List Row) (times : List ℕ) 
 module _ {s : List ℕ} {at n : ℕ} {rows : List Row} {times : List ℕ} {p used i : ℕ} (l : Loading s at n rows times p used i) where
   -- after the last row
   ends : n ≤ i → record { next = At p; table = record { count = n; rows = rows; times = times } } ≡ asBody (rowsAt n [] s at)
+  unfolding rowsAt
   ends h =
       let last : n ≡ i = omega (arith, l .upto) in
       let none : n - i ≡ 0 = omega arith in
-      let read : rowsAt n [] s at ≡ go (l .done) p = l .same ∙ rw (none, rows-none) in
+      let read : rowsAt n [] s at ≡ go (l .done) p = l .same ∙ rw none in
       ap (λ (k : ℕ). record { next = At p; table = record { count = k; rows = rows; times = times } }) last
       ∙ ap (λ (t : Table). record { next = At p; table = t }) (laid-stored (l .laid))
       ∙ sym (ap asBody read)
