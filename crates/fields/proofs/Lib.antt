@@ -2,6 +2,5 @@ pub mod Steps
 pub mod Taken
 pub mod Into
 pub mod Sizes
-pub mod Stops
 pub mod Near
 pub mod Here

@@ -37,8 +37,7 @@ unfolding AllFine each total bytesOf
 short [] [] f = omega arith
 short [] (n ∷ ns) f = absurd f
 short (w ∷ ws) [] f = absurd f
-short (w ∷ ws) (n ∷ ns) f =
-    omega (arith, length-append (encode n) (encodeAll ns), longer n (w .high) (f .0 .most), short ws ns (f .1))
+short (w ∷ ws) (n ∷ ns) f = omega (arith, length-append (encode n) (encodeAll ns), longer n (w .high) (f .0 .most), short ws ns (f .1))
 
 -- id 3, core 1, type 1, priority 2, period 4, deadline 4, part count 1
 pub bytes-head : (used : ℕ) → total bytesOf (head used) ≡ 16

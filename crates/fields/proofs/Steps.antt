@@ -1,9 +1,8 @@
 -- Laws of reading step by step, for the proofs of the code that reads. Assumes nothing.
-use Prim.Native.Nat.{ℕ, _+_, _≤_}
+use Prim.Native.Nat.{ℕ}
 use native.Mathlib.Omega.{arith}
 use mathlib.Core.Path.{_≡_, refl, sym, _∙_}
 use mathlib.Core.List.{List, [], _∷_, _++_}
-use lib.ListN.{length, drop, drop-of-length-le}
 use Rattle.table.specs.declared.Verdict.{Verdict}
 use Rattle.table.specs.Verdicts.{codeOf}
 use Rattle.table.specs.Fields.{Wanted}
@@ -33,40 +32,6 @@ got-field (go w m) v n e = let p : w ≡ v = cc in let q : m ≡ n = cc in rw (p
 pub refused-field : (x : Step ℕ) (v : Verdict) → F.Refused v ≡ asField x → x ≡ stop v
 refused-field (stop w) v e = let p : w ≡ v = cc in rw p
 refused-field (go w m) v e = let z : _≡_ {A = ℕ} 0 1 = cc in absurd (omega arith)
-
--- one number more, or none: what reading gives, and what stands then
-module _ (ws : List Wanted) (w : Wanted) (i : ℕ) (done s : List ℕ) (p : ℕ) (next : drop i ws ≡ w ∷ drop (i + 1) ws) where
-  -- one more is read
-  pub fields-more : (v n : ℕ) → fieldAt w s p ≡ go v n → fieldsAt (drop i ws) done s p ≡ fieldsAt (drop (i + 1) ws) (done ++ (v ∷ [])) s n
-  unfolding fieldsAt _then_
-  fields-more v n e = rw (next, e)
-
-  -- and stands behind the others
-  pub before-more : (v n : ℕ) → fieldAt w s p ≡ go v n
-      → readBefore (drop i ws) done s p ≡ readBefore (drop (i + 1) ws) (done ++ (v ∷ [])) s n
-  unfolding readBefore stepped
-  before-more v n e = rw (next, e)
-
-  -- one is refused
-  pub fields-stop : (v : Verdict) → fieldAt w s p ≡ stop v → fieldsAt (drop i ws) done s p ≡ stop v
-  unfolding fieldsAt _then_
-  fields-stop v e = rw (next, e)
-
-  -- and the others stand
-  pub before-stop : (v : Verdict) → fieldAt w s p ≡ stop v → readBefore (drop i ws) done s p ≡ done
-  unfolding readBefore stepped
-  before-stop v e = rw (next, e)
-
-module _ (ws : List Wanted) (i : ℕ) (done s : List ℕ) (p : ℕ) (past : length ws ≤ i) where
-  -- none is wanted any more
-  pub fields-none : fieldsAt (drop i ws) done s p ≡ go done p
-  unfolding fieldsAt
-  fields-none = rw (drop-of-length-le ws past)
-
-  -- and all stand
-  pub before-none : readBefore (drop i ws) done s p ≡ done
-  unfolding readBefore
-  before-none = rw (drop-of-length-le ws past)
 
 -- the first numbers wanted, and behind them the others
 pub fields-append : (ws vs : List Wanted) (done s : List ℕ) (at : ℕ)

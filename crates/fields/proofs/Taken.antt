@@ -51,19 +51,22 @@ then-read (stop v) f b n e = stopped-not (stop v) refl e
 then-read (go a m) f b n e = record { what = a; place = m; first = refl; rest = e }
 
 -- from one place to the next stand these bytes
-abbrev pub Between : List ℕ → ℕ → List ℕ → ℕ → Type 0
-Between s at bytes next = drop at s ≡ bytes ++ drop next s
+pub record Between (s : List ℕ) (at : ℕ) (bytes : List ℕ) (next : ℕ) : Type 0 where
+  pub stand : drop at s ≡ bytes ++ drop next s
+  pub past : next ≡ at + length bytes
 
 -- and behind them others
 pub joined : (s : List ℕ) (at m n : ℕ) (a b : List ℕ) → Between s at a m → Between s m b n → Between s at (a ++ b) n
-joined s at m n a b e f = e ∙ ap (_++_ a) f ∙ sym (append-assoc a b (drop n s))
+joined s at m n a b e f = record {
+  stand = e .stand ∙ ap (_++_ a) (f .stand) ∙ sym (append-assoc a b (drop n s));
+  past = rw length-append (omega (arith, e .past, f .past));
+}
 
 -- the number that was read stands there, and is what it may be
 pub record Read (w : Wanted) (s : List ℕ) (at v n : ℕ) : Type 0 where
   pub number : numberAt s at ≡ N.Got v n
   pub fine : Fine w v
   pub bytes : Bytes s → Between s at (encode v) n
-  pub past : Bytes s → n ≡ at + length (encode v)
 
 -- so it is where a wanted number was read
 pub field-read : (w : Wanted) (s : List ℕ) (at v n : ℕ) → fieldAt w s at ≡ go v n → Read w s at v n
@@ -78,8 +81,7 @@ field-read w s at v n e = by (numberAt s at) refl
         record {
           number = q;
           fine = good-fine w at u (p .fine);
-          bytes = λ bs. stands s at u m bs q .bytes;
-          past = λ bs. stands s at u m bs q .past;
+          bytes = λ bs. let r = stands s at u m bs q in record { stand = r .bytes; past = r .past };
         }
     by N.EndsEarly q = let f : _≡_ {A = Step ℕ} (stop _) (go v n) = rw q at e in stopped-not _ refl f
     by N.Malformed q = let f : _≡_ {A = Step ℕ} (stop _) (go v n) = rw q at e in stopped-not _ refl f
@@ -90,7 +92,6 @@ pub record Taken (ws : List Wanted) (done s : List ℕ) (at : ℕ) (all : List �
   pub whole : all ≡ done ++ numbers
   pub fine : AllFine ws numbers
   pub bytes : Bytes s → Between s at (encodeAll numbers) n
-  pub past : Bytes s → n ≡ at + length (encodeAll numbers)
 
 -- so it is where wanted numbers were read
 pub taken : (ws : List Wanted) (done s : List ℕ) (at : ℕ) (all : List ℕ) (n : ℕ) → fieldsAt ws done s at ≡ go all n
@@ -103,8 +104,7 @@ taken [] done s at all n e =
       numbers = [];
       whole = sym same ∙ sym (append-nil done);
       fine = tt;
-      bytes = λ bs. ap (λ (k : ℕ). drop k s) here;
-      past = λ bs. omega arith;
+      bytes = λ bs. record { stand = ap (λ (k : ℕ). drop k s) here; past = omega arith };
     }
 taken (w ∷ ws) done s at all n e =
     let r = then-read (fieldAt w s at) (λ v m. fieldsAt ws (done ++ (v ∷ [])) s m) all n e in
@@ -117,18 +117,16 @@ taken (w ∷ ws) done s at all n e =
       whole = l .whole ∙ append-assoc done (v ∷ []) (l .numbers);
       fine = (f .fine, l .fine);
       bytes = λ bs. joined s at m n (encode v) (encodeAll (l .numbers)) (f .bytes bs) (l .bytes bs);
-      past = λ bs. omega (arith, f .past bs, l .past bs, length-append (encode v) (encodeAll (l .numbers)));
     }
 
 -- from nothing done: all of them
 pub record TakenAll (ws : List Wanted) (s : List ℕ) (at : ℕ) (all : List ℕ) (n : ℕ) : Type 0 where
   pub fine : AllFine ws all
   pub bytes : Bytes s → Between s at (encodeAll all) n
-  pub past : Bytes s → n ≡ at + length (encodeAll all)
 
 -- so it is where nothing was done before
 pub taken-all : (ws : List Wanted) (s : List ℕ) (at : ℕ) (all : List ℕ) (n : ℕ) → fieldsAt ws [] s at ≡ go all n → TakenAll ws s at all n
-taken-all ws s at all n e = let r = taken ws [] s at all n e in rw (r .whole) record { fine = r .fine; bytes = r .bytes; past = r .past }
+taken-all ws s at all n e = let r = taken ws [] s at all n e in rw (r .whole) record { fine = r .fine; bytes = r .bytes }
 
 -- a row's fields that were read are in their ranges
 pub head-read : (used : ℕ) (s : List ℕ) (at : ℕ) (fields : List ℕ) (n : ℕ) → fieldsAt (head used) [] s at ≡ go fields n

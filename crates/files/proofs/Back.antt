@@ -26,9 +26,9 @@ use Rattle.files.proofs.RowBytes.{rowBytes, rowsBytes, row-parts, rows-
 
 module _ (s : List ℕ) where
   -- a row that was read
-  record Row (used at : ℕ) (t : Task) (n : ℕ) : Type 0 where
-    fine : FineTask used t
-    bytes : Bytes s → Between s at (rowBytes t) n
+  pub record Row (used at : ℕ) (t : Task) (n : ℕ) : Type 0 where
+    pub fine : FineTask used t
+    pub bytes : Bytes s → Between s at (rowBytes t) n
 
   -- its seven fields, then as many times as it has parts
   row-of : (used at m n : ℕ) (fields times : List ℕ) → TakenAll (head used) s at fields m
@@ -51,7 +51,7 @@ module _ (s : List ℕ) where
       rw (← same, ← here) r
 
   -- so does a row
-  row-back : (used at : ℕ) (t : Task) (n : ℕ) → rowAt used s at ≡ go t n → Row used at t n
+  pub row-back : (used at : ℕ) (t : Task) (n : ℕ) → rowAt used s at ≡ go t n → Row used at t n
   unfolding rowAt
   row-back used at t n e =
       let a = then-read (fieldsAt (head used) [] s at) _ t n e in
@@ -61,12 +61,12 @@ module _ (s : List ℕ) where
       same-row used at _ (b .place) t n (row-of used at (a .place) (b .place) (a .what) (b .what) fields times) (b .rest)
 
   -- rows that were read behind those that are done
-  record Rows (k at : ℕ) (done all : List Task) (n : ℕ) : Type 0 where
-    tail : List Task
-    whole : all ≡ done ++ tail
-    count : length tail ≡ k
-    fine : FineTasks (length (allTimes done)) tail
-    bytes : Bytes s → Between s at (rowsBytes tail) n
+  pub record Rows (k at : ℕ) (done all : List Task) (n : ℕ) : Type 0 where
+    pub tail : List Task
+    pub whole : all ≡ done ++ tail
+    pub count : length tail ≡ k
+    pub fine : FineTasks (length (allTimes done)) tail
+    pub bytes : Bytes s → Between s at (rowsBytes tail) n
 
   -- one row more
   row-more : (k at m n : ℕ) (t : Task) (done all : List Task)
@@ -84,7 +84,7 @@ module _ (s : List ℕ) where
       }
 
   -- and rows one after another
-  rows-back : (k : ℕ) (done : List Task) (at : ℕ) (all : List Task) (n : ℕ) → rowsAt k done s at ≡ go all n → Rows k at done all n
+  pub rows-back : (k : ℕ) (done : List Task) (at : ℕ) (all : List Task) (n : ℕ) → rowsAt k done s at ≡ go all n → Rows k at done all n
   unfolding rowsAt FineTasks
   rows-back zero done at all n e =
       let same : done ≡ all = cc in
@@ -94,7 +94,7 @@ module _ (s : List ℕ) where
         whole = sym same ∙ sym (append-nil done);
         count = refl;
         fine = tt;
-        bytes = λ bs. rw (rows-none, here);
+        bytes = λ bs. rw rows-none (record { stand = ap (λ (p : ℕ). drop p s) here; past = omega arith });
       }
   rows-back (suc k) done at all n e =
       let r = then-read (rowAt (length (allTimes done)) s at) (λ t m. rowsAt k (done ++ (t ∷ [])) s m) all n e in
@@ -121,10 +121,10 @@ module _ (s : List ℕ) where
       let all : length ts ≡ count = ap length (r .whole) ∙ r .count in
       let fine : FineTasks 0 (r .tail) = unfold each in r .fine in
       let none : drop m s ≡ [] = drop-of-length-le s ended in
-      let rows : Bytes s → drop at s ≡ rowsBytes ts = λ bs. r .bytes bs ∙ rw (none, ← r .whole) (append-nil (rowsBytes ts)) in
+      let rows : Bytes s → drop at s ≡ rowsBytes ts = λ bs. r .bytes bs .stand ∙ rw (none, ← r .whole) (append-nil (rowsBytes ts)) in
       record {
         good = record { few = omega (arith, c .fine .most); fine = rw (r .whole) fine; apart = apart };
-        bytes = λ bs. c .bytes bs ∙ rw (rows bs, ← all) (sym (file-parts ts));
+        bytes = λ bs. c .bytes bs .stand ∙ rw (rows bs, ← all) (sym (file-parts ts));
       }
 
   -- a file that was read is the one that its tasks are written as

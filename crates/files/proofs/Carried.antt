@@ -1,4 +1,4 @@
--- The number that a reading code carries is at most the file's length and 64: an offset, the length or a row. Assumes nothing.
+-- Reading stops only at a fault, with a verdict of reading; the number that it carries is an offset, the length or a row. Assumes nothing.
 use Prim.Native.Nat.{ℕ, zero, suc, _+_, _≤_}
 use native.Mathlib.Omega.{arith}
 use mathlib.Core.Path.{_≡_, refl}
@@ -21,8 +21,9 @@ use Rattle.table.specs.Fields.{field, head, time, rowFrom}
 use Rattle.table.specs.Memory.{taskOf, allTimes, rowsOf}
 use Rattle.table.specs.Clash.{clash, breaks, ruleVerdict, broken, clashOf}
 use Rattle.table.proofs.Stored.{rows-length}
+use Rattle.table.proofs.ReadingCodes.{clash-reading}
 use Rattle.fields.specs.Stepping.{stop, unless, fieldAt, fieldsAt}
-use Rattle.fields.proofs.Near.{Near, Any, go-near, then-near, unless-near, field-near, fields-near}
+use Rattle.fields.proofs.Near.{Stopped, Inside, Near, Any, go-near, then-near, unless-near, field-near, fields-near}
 use Rattle.files.specs.Reading.{rowAt, rowsAt, endAt, decode}
 
 -- a clash carries its row
@@ -51,17 +52,17 @@ clash-small rows =
     or-small _ _ (length rows) (broken-small R.SameId rows)
     (or-small _ _ (length rows) (broken-small R.SamePriority rows) (broken-small R.KindsCrossed rows))
 
-module _ (s : List ℕ) (bs : Bytes s) where
+module _ (s : List ℕ) where
   -- a row
-  row-near : (used at : ℕ) → at ≤ length s → Near s Any (rowAt used s at)
+  row-near : (used at : ℕ) → Inside s at → Near s Any (rowAt used s at)
   unfolding rowAt
   row-near used at h =
-      then-near s Any Any (fieldsAt (head used) [] s at) _ (fields-near s bs (head used) [] at h)
-      (λ fields m k p. then-near s Any Any (fieldsAt (replicate (rowFrom fields .parts) time) [] s m) _ (fields-near s bs _ [] m k)
+      then-near s Any Any (fieldsAt (head used) [] s at) _ (fields-near s (head used) [] at h)
+      (λ fields m k p. then-near s Any Any (fieldsAt (replicate (rowFrom fields .parts) time) [] s m) _ (fields-near s _ [] m k)
       (λ times n l q. go-near s Any (taskOf (rowFrom fields) times) n l tt))
 
   -- rows one after another
-  rows-near : (k : ℕ) (done : List Task) (at : ℕ) → at ≤ length s → Near s (λ ts. length ts ≡ length done + k) (rowsAt k done s at)
+  rows-near : (k : ℕ) (done : List Task) (at : ℕ) → Inside s at → Near s (λ ts. length ts ≡ length done + k) (rowsAt k done s at)
   unfolding rowsAt
   rows-near zero done at h = go-near s (λ ts. length ts ≡ length done + zero) done at h (omega arith)
   rows-near (suc k) done at h =
@@ -76,24 +77,29 @@ module _ (s : List ℕ) (bs : Bytes s) where
           rw same at near
 
   -- the end
-  end-near : (ts : List Task) (at : ℕ) → at ≤ length s → length ts ≤ 64 → Near s Any (endAt s ts at)
+  end-near : (ts : List Task) (at : ℕ) → Inside s at → length ts ≤ 64 → Near s Any (endAt s ts at)
   unfolding endAt
   end-near ts at h few = of-test (ltb at (length s))
     where
       of-test : (b : Bool) → Near s Any (pick b (stop (Trailing at)) (unless (clashOf (rowsOf ts)) ts at))
-      of-test true = unfold Near in omega arith
+      of-test true = unfold Near good in record { fault = record { fault = refl; read = refl }; small = λ bs. omega (arith, h bs) }
       of-test false =
-          unless-near s Any (clashOf (rowsOf ts)) ts at (omega (arith, clash-small (rowsOf ts), rows-length ts)) h (λ g. tt)
+          unless-near s Any (clashOf (rowsOf ts)) ts at (clash-reading (rowsOf ts))
+          (λ bs. omega (arith, clash-small (rowsOf ts), rows-length ts)) h (λ g. tt)
 
   -- the whole file
   file-near : Near s Any (decode s)
   unfolding decode
   file-near =
-      then-near s (λ v. v ≤ 64) Any (fieldAt (field 0 64) s 0) _ (field-near s bs (field 0 64) 0 (omega arith))
+      then-near s (λ v. v ≤ 64) Any (fieldAt (field 0 64) s 0) _ (field-near s (field 0 64) 0 (λ bs. omega arith))
       (λ count at h most. then-near s (λ (ts : List Task). length ts ≡ 0 + count) Any (rowsAt count [] s at) _ (rows-near count [] at h)
       (λ ts n k all. let few : length ts ≡ 0 + count = all in let m : count ≤ 64 = most in end-near ts n k (omega arith)))
 
-  -- the number that a refused file carries
-  pub carried : (v : Verdict) → decode s ≡ stop v → numberOf v ≤ length s + 64
+  -- the verdict of a refused file
+  pub stopped : (v : Verdict) → decode s ≡ stop v → Stopped s v
   unfolding Near
-  carried v e = rw e at file-near
+  stopped v e = rw e at file-near
+
+  -- the number that it carries
+  pub carried : Bytes s → (v : Verdict) → decode s ≡ stop v → numberOf v ≤ length s + 64
+  carried bs v e = stopped v e .small bs

@@ -6,7 +6,7 @@ use mathlib.Core.Path.{_≡_, refl, sym, ap, _∙_}
 use mathlib.Core.Logic.{⊎-elim}
 use mathlib.Core.Bool.{true}
 use mathlib.Core.List.{List, [], _∷_, _++_}
-use lib.ListN.{length, take, drop, replicate, length-append, length-drop, length-replicate}
+use lib.ListN.{length, take, drop, replicate, length-append, length-drop}
 use lib.Seq.{take-all, length-take-le}
 use Rattle.lists.specs.Lists.{total, each}
 use Rattle.lists.proofs.Each.{each-snoc}
@@ -19,13 +19,16 @@ use Rattle.numbers.proofs.Laws.{groups-front, groups-enough, encode-some, lengt
 use Rattle.numbers.proofs.Sizes.{longer}
 use Rattle.model.specs.Task.{Task}
 use Rattle.table.specs.Fields.{Wanted, field, head, time, rowFrom}
-use Rattle.table.specs.Memory.{taskOf, allTimes}
-use Rattle.table.proofs.Seven.{all-length}
+use Rattle.table.specs.Memory.{rowOf, allTimes}
+use Rattle.table.proofs.Heads.{good-head}
+use Rattle.table.proofs.GoodTasks.{FineTasks, times-fit}
 use Rattle.fields.specs.Stepping.{Step, stop, go, _then_, asked, fieldAt, fieldsAt}
 use Rattle.files.specs.Reading.{rowAt, rowsAt, endAt, decode, loaded, readAnswer}
 use Rattle.files.specs.Enough.{EnoughToJudge}
 use Rattle.fields.proofs.Sizes.{bytesOf, short, bytes-head, bytes-times}
-use Rattle.fields.proofs.Taken.{field-read, taken-all, head-read, then-read}
+use Rattle.fields.proofs.Taken.{field-read, taken-all, head-read}
+use Rattle.files.proofs.Back.{row-back, rows-back}
+use Rattle.files.proofs.Short.{row-short, rows-short}
 
 -- steps that agree, and go on alike
 then-same : {A B : Type 0} (x y : Step A) (f g : A → ℕ → Step B) → x ≡ y → ((a : A) (n : ℕ) → x ≡ go a n → f a n ≡ g a n)
@@ -75,13 +78,13 @@ module _ (s : List ℕ) (bs : Bytes s) (long : 5124 ≤ length s) where
   next-ends w at v n rest h e =
       let r = field-read w s at v n e in
       let size : length (encode v) ≤ bytesOf w = unfold bytesOf in longer v (w .high) (r .fine .most) in
-      omega (arith, r .past bs)
+      omega (arith, r .bytes bs .past)
 
-  -- where a row's fields end, and its times
+  -- where a row's fields end
   fields-end : (used at : ℕ) (fields : List ℕ) (n : ℕ) → fieldsAt (head used) [] s at ≡ go fields n → n ≤ at + 16
   fields-end used at fields n e =
       let r = taken-all (head used) s at fields n e in
-      omega (arith, r .past bs, short (head used) fields (r .fine), bytes-head used)
+      omega (arith, r .bytes bs .past, short (head used) fields (r .fine), bytes-head used)
 
   -- its times
   times-end : (i used at : ℕ) (fields : List ℕ) (n : ℕ) → i < 64 → used ≤ 1024 → at ≤ 1 + (16 * i + 4 * used)
@@ -108,27 +111,12 @@ module _ (s : List ℕ) (bs : Bytes s) (long : 5124 ≤ length s) where
       (fields-same _ [] n (times-end i used at fields n few room h e))
       (λ times m f. refl))
 
-  -- where a row ends
-  row-end : (used at : ℕ) (task : Task) (n : ℕ) → rowAt used s at ≡ go task n
-      → (n ≤ at + (16 + 4 * length (task .times))) × (used + length (task .times) ≤ 1024)
-  unfolding rowAt
-  row-end used at task n e =
-      let a = then-read (fieldsAt (head used) [] s at) _ task n e in
-      let b = then-read (fieldsAt (replicate (rowFrom (a .what) .parts) time) [] s (a .place)) _ task n (a .rest) in
-      by (a .what) (a .place) (a .first) (b .what) (b .place) (b .first) (b .rest)
-    where
-      by : (fields : List ℕ) (p : ℕ) → fieldsAt (head used) [] s at ≡ go fields p → (times : List ℕ) (q : ℕ)
-          → fieldsAt (replicate (rowFrom fields .parts) time) [] s p ≡ go times q → go (taskOf (rowFrom fields) times) q ≡ go task n
-          → (n ≤ at + (16 + 4 * length (task .times))) × (used + length (task .times) ≤ 1024)
-      by fields p f times q g last =
-          let same : taskOf (rowFrom fields) times ≡ task = cc in
-          let here : q ≡ n = cc in
-          let r = taken-all (replicate (rowFrom fields .parts) time) s p times q g in
-          let count : length times ≡ rowFrom fields .parts = all-length _ times (r .fine) ∙ length-replicate (rowFrom fields .parts) time in
-          let own : length (task .times) ≡ rowFrom fields .parts = ap (λ (t : Task). length (t .times)) (sym same) ∙ count in (
-            omega (arith, r .past bs, short _ times (r .fine), bytes-times (rowFrom fields .parts), fields-end used at fields p f),
-            omega (arith, head-read used s at fields p f .room),
-          )
+  -- where a row ends, and how many times there are then
+  row-end : (used at : ℕ) (t : Task) (n : ℕ) → rowAt used s at ≡ go t n
+      → (n ≤ at + (16 + 4 * length (t .times))) × (used + length (t .times) ≤ 1024)
+  row-end used at t n e =
+      let r = row-back s used at t n e in
+      (omega (arith, r .bytes bs .past, row-short used t (r .fine)), good-head used (rowOf t) (r .fine .fields) .room)
 
   -- rows one after another
   rows-same : (k : ℕ) (done : List Task) (at : ℕ) → length done + k ≤ 64 → length (allTimes done) ≤ 1024
@@ -144,17 +132,11 @@ module _ (s : List ℕ) (bs : Bytes s) (long : 5124 ≤ length s) where
       rows-same k (done ++ (task ∷ [])) n (omega (arith, rows)) (omega (arith, times, own .1)) (omega (arith, times, rows, own .0)))
 
   -- where they all end
-  rows-end : (k : ℕ) (done : List Task) (at : ℕ) (tasks : List Task) (n : ℕ) → length done + k ≤ 64 → length (allTimes done) ≤ 1024
-      → at ≤ 1 + (16 * length done + 4 * length (allTimes done)) → rowsAt k done s at ≡ go tasks n → n ≤ 5121
-  unfolding rowsAt
-  rows-end zero done at tasks n few room h e = let here : at ≡ n = cc in omega arith
-  rows-end (suc k) done at tasks n few room h e =
-      let r = then-read (rowAt (length (allTimes done)) s at) _ tasks n e in
-      let own = row-end (length (allTimes done)) at (r .what) (r .place) (r .first) in
-      let times = ap length (each-snoc _ done (r .what)) ∙ length-append (allTimes done) (r .what .times) in
-      let rows = length-append done (r .what ∷ []) in
-      rows-end k (done ++ (r .what ∷ [])) (r .place) tasks n (omega (arith, rows)) (omega (arith, times, own .1))
-      (omega (arith, times, rows, own .0)) (r .rest)
+  rows-end : (k at : ℕ) (tasks : List Task) (n : ℕ) → k ≤ 64 → at ≤ 1 → rowsAt k [] s at ≡ go tasks n → n ≤ 5121
+  rows-end k at tasks n few first e =
+      let r = rows-back s k [] at tasks n e in
+      let fine : FineTasks 0 (r .tail) = unfold each in r .fine in
+      omega (arith, r .count, r .bytes bs .past, rows-short 0 (r .tail) fine, times-fit 0 (r .tail) (omega arith) fine)
 
   -- bytes are left after them, in the file as in its front
   end-same : (tasks : List Task) (at : ℕ) → at ≤ 5121 → endAt s tasks at ≡ endAt z tasks at
@@ -172,10 +154,9 @@ module _ (s : List ℕ) (bs : Bytes s) (long : 5124 ≤ length s) where
       let r = field-read (field 0 64) s 0 count at e in
       let one = length-one count (omega (arith, r .fine .most)) in
       let none : length (allTimes []) ≡ 0 = unfold each in refl in
-      let few : 0 + count ≤ 64 = omega (arith, r .fine .most) in
-      let first : at ≤ 1 + (16 * 0 + 4 * length (allTimes [])) = omega (arith, r .past bs) in
-      then-same (rowsAt count [] s at) _ _ _ (rows-same count [] at few (omega arith) first)
-      (λ tasks n f. end-same tasks n (rows-end count [] at tasks n few (omega arith) first f)))
+      let first : at ≤ 1 = omega (arith, r .bytes bs .past) in
+      then-same (rowsAt count [] s at) _ _ _ (rows-same count [] at (omega (arith, r .fine .most)) (omega arith) (omega arith))
+      (λ tasks n f. end-same tasks n (rows-end count at tasks n (r .fine .most) first f)))
 
 -- a longer file is judged by its front; a shorter one is its front
 pub enough-to-judge : EnoughToJudge

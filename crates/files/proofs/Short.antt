@@ -19,7 +19,7 @@ use Rattle.files.proofs.Stops.{good-tasks}
 use Rattle.files.proofs.Back.{file-back}
 
 -- a row: 16 bytes, and four for each time
-row-short : (used : ℕ) (t : Task) → FineTask used t → length (rowBytes t) ≤ 16 + 4 * length (t .times)
+pub row-short : (used : ℕ) (t : Task) → FineTask used t → length (rowBytes t) ≤ 16 + 4 * length (t .times)
 row-short used t f =
     let fields : length (encodeAll (fieldsOf (rowOf t))) ≤ 16 = rw (bytes-head used) at (short (head used) _ (f .fields)) in
     let times : length (encodeAll (t .times)) ≤ 4 * length (t .times)
@@ -27,7 +27,7 @@ row-short used t f =
     rw (row-parts t, length-append (encodeAll (fieldsOf (rowOf t))) (encodeAll (t .times))) (omega arith)
 
 -- rows one after another
-rows-short : (used : ℕ) (ts : List Task) → FineTasks used ts → length (rowsBytes ts) ≤ 16 * length ts + 4 * length (allTimes ts)
+pub rows-short : (used : ℕ) (ts : List Task) → FineTasks used ts → length (rowsBytes ts) ≤ 16 * length ts + 4 * length (allTimes ts)
 unfolding FineTasks each
 rows-short used [] f = rw rows-none (omega arith)
 rows-short used (t ∷ ts) f =

@@ -2,7 +2,7 @@
 use Prim.Native.Nat.{ℕ, zero, suc, _-_, _<_}
 use native.Mathlib.Numerals.{sub-one}
 use native.Mathlib.Omega.{arith}
-use mathlib.Core.Path.{_≡_, refl, ap, _∙_}
+use mathlib.Core.Path.{_≡_, ap, _∙_}
 use mathlib.Core.List.{List, [], _∷_, _++_}
 use lib.ListN.{length, replicate}
 use Rattle.model.specs.Task.{Task}
@@ -85,8 +85,3 @@ module _ (k : ℕ) (done : List Task) (s : List ℕ) (p : ℕ) (some : 0 < k) wh
   pub rows-stop : (v : Verdict) → rowAt (length (allTimes done)) s p ≡ stop v → rowsAt k done s p ≡ stop v
   unfolding _then_
   rows-stop v e = rows-step ∙ rw e
-
--- no row is left
-pub rows-none : (done : List Task) (s : List ℕ) (p : ℕ) → rowsAt 0 done s p ≡ go done p
-unfolding rowsAt
-rows-none done s p = refl

@@ -94,15 +94,7 @@ lent-length n = ap length (n .own) ∙ sym (ap (λ (r : Row). r .parts) (n .row)
 pub stored-ahead : (ts : List Task) → length ts ≤ 64 → length (allTimes ts) ≤ 1024 → ((u : Task) → u ∈ ts → GoodTask u)
     → Ahead (stored ts) 0 0 ts
 stored-ahead ts few room good =
-    record {
-      few = few;
-      upto = omega arith;
-      room = omega arith;
-      good = good;
-      rows = stored-rows ts;
-      more-times = _;
-      times = refl;
-    }
+    record { few = few; upto = omega arith; room = omega arith; good = good; rows = stored-rows ts; more-times = _; times = refl }
 
 -- at the tasks of a table without a fault
 pub good-ahead : (t : Table) → length (t .rows) ≡ 64 → length (t .times) ≡ 1024 → codeOf (faultOf t) ≡ 0 → Ahead t 0 0 (tasksOf t)

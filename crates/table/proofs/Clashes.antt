@@ -46,15 +46,11 @@ module _ {A : Type 0} (f : A → A → Bool) (rows : List A) (d : A) (i : ℕ) w
   outer-past h o = sym (o ∙ rw (drop-of-length-le rows h, add-zero))
 
   module _ (j : ℕ) (inside : i < length rows) where
-    -- an earlier row, as it stands among all
-    earlier : j < i → getD (take i rows) j d ≡ getD rows j d
-    earlier h = getD-take i rows j d h
-
     -- the next earlier row, then the others
     looked : j < i → Inner f rows (getD rows i d) i j
         → any (f (getD rows i d)) (take i rows)
         ≡ pick (f (getD rows i d) (getD rows j d)) true (any (f (getD rows i d)) (drop (j + 1) (take i rows)))
-    looked h e = e ∙ any-step (f (getD rows i d)) (take i rows) d j (rw (length-take-le i rows (omega arith)) h) ∙ rw (earlier h)
+    looked h e = e ∙ any-step (f (getD rows i d)) (take i rows) d j (rw (length-take-le i rows (omega arith)) h) ∙ rw (getD-take i rows j d h)
 
     -- it does not clash
     pub inner-next : j < i → f (getD rows i d) (getD rows j d) ≡ false

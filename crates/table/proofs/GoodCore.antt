@@ -25,7 +25,7 @@ use Rattle.table.specs.Memory.{rowOf, tasksOf, rowsOf}
 use Rattle.table.specs.Clash.{coopAbove, breaks, broken, clashOf}
 use Rattle.table.specs.Faults.{faultOf}
 use Rattle.table.proofs.Codes.{first-good, then-good}
-use Rattle.table.proofs.GoodTasks.{GoodTasks, tasks-good}
+use Rattle.table.proofs.GoodTasks.{tasks-good}
 use Rattle.table.proofs.EachGood.{each-good}
 use Rattle.table.proofs.NoClash.{Apart, apart-two, rule-holds}
 
@@ -73,7 +73,7 @@ module _ (a b : Task) (core : eqb (a .core) (b .core) ≡ true) (back : eqb (b .
       (λ t. t)
 
 -- the rows of a core of a good table
-module _ (c : ℕ) (ts : List Task) (few : length ts ≤ 64) (d : Distinct (onCore c ts)) (k : Apart (breaks R.KindsCrossed) (rowsOf ts)) where
+module _ (c : ℕ) (ts : List Task) (d : Distinct (onCore c ts)) (k : Apart (breaks R.KindsCrossed) (rowsOf ts)) where
   -- a cooperative one is not above a preemptive one
   not-above : (a b : Task) → a ∈ onCore c ts → b ∈ onCore c ts → a .kind ≡ 0 → b .kind ≡ 1 → b .priority ≤ a .priority
   unfolding onCore
@@ -96,35 +96,19 @@ module _ (c : ℕ) (ts : List Task) (few : length ts ≤ 64) (d : Distinct (onCo
       absurd (omega (arith, ap (λ (t : Task). t .kind) same))))
       (either (b .priority) (a .priority))
 
-  -- no more rows than there are
-  core-few : length (onCore c ts) ≤ 64
-  unfolding onCore
-  core-few = omega (arith, keep-length (λ t. eqb (t .core) c) ts)
-
--- tasks that do not clash
-module _ (ts : List Task) (g : GoodTasks ts) where
-  -- no priority twice on a core
-  priorities-apart : Apart (breaks R.SamePriority) (rowsOf ts)
-  unfolding clashOf
-  priorities-apart = rule-holds R.SamePriority (rowsOf ts) (first-good _ _ (then-good (broken R.SameId (rowsOf ts)) _ (g .apart)))
-
-  -- no cooperative row above a preemptive one
-  kinds-apart : Apart (breaks R.KindsCrossed) (rowsOf ts)
-  unfolding clashOf
-  kinds-apart =
-      rule-holds R.KindsCrossed (rowsOf ts)
-      (then-good (broken R.SamePriority (rowsOf ts)) _ (then-good (broken R.SameId (rowsOf ts)) _ (g .apart)))
-
 -- the rows of each core of a table without a fault
 pub good-core : (t : Table) → length (t .rows) ≡ 64 → length (t .times) ≡ 1024 → codeOf (faultOf t) ≡ 0
     → (c : ℕ) → GoodCore (onCore c (tasksOf t))
+unfolding clashOf
 good-core t rows times e c =
+    let ts = tasksOf t in
     let g = tasks-good t rows times e in
-    let d = core-distinct c (tasksOf t) (priorities-apart (tasksOf t) g) in
-    let k = kinds-apart (tasksOf t) g in
+    let after-ids = then-good (broken R.SameId (rowsOf ts)) _ (g .apart) in
+    let d = core-distinct c ts (rule-holds R.SamePriority (rowsOf ts) (first-good _ _ after-ids)) in
+    let k = rule-holds R.KindsCrossed (rowsOf ts) (then-good (broken R.SamePriority (rowsOf ts)) _ after-ids) in
     record {
-      few = core-few c (tasksOf t) (g .few) d k;
-      good = core-good c (tasksOf t) (each-good t rows times e);
+      few = unfold onCore in omega (arith, keep-length (λ t. eqb (t .core) c) ts, g .few);
+      good = core-good c ts (each-good t rows times e);
       distinct = d;
-      ordered = core-ordered c (tasksOf t) (g .few) d k;
+      ordered = core-ordered c ts d k;
     }

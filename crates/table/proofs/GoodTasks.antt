@@ -102,10 +102,7 @@ found i used (r ∷ rows) times h e =
     let own : length (take (r .parts) times) ≡ r .parts = length-take-le (r .parts) times (omega arith) in
     let left : length (drop (r .parts) times) ≡ length times - r .parts = length-drop (r .parts) times in
     let others = found (suc i) (used + r .parts) rows (drop (r .parts) times) (omega arith) (then-good (rowFault i used r times) _ e) in
-    record {
-      fine = (row-found i used r times mine (omega arith), rw own (others .fine));
-      enough = omega (arith, others .enough);
-    }
+    record { fine = (row-found i used r times mine (omega arith), rw own (others .fine)); enough = omega (arith, others .enough) }
 
 -- a table in memory has 64 rows and 1,024 times, by its type
 module _ (t : Table) (rows : length (t .rows) ≡ 64) (times : length (t .times) ≡ 1024) (e : codeOf (faultOf t) ≡ 0) where

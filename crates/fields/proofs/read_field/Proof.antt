@@ -18,71 +18,45 @@ read : (w : Wanted) (s : List ℕ) (at : ℕ) (x : Number) → x ≡ numberAt s 
 unfolding fieldAt
 read w s at x e = ap (asked w s at) e
 
-number-at-requires : tie.Need-number-at-requires
-number-at-requires c κs = search needs
-
-enum-known-value : tie.Need-enum-known-value
-enum-known-value c = search needs
-
-number-fault-requires : tie.Need-number-fault-requires
-number-fault-requires c κs = search needs
-
-code-of-requires : tie.Need-code-of-requires
-code-of-requires c κs = search needs
-
 returns : tie.Need-returns
 unfolding asked
 returns c =
-    let c1 = c .before in
-    let c2 = c1 .before in
-    let c4 = c2 .before .before in
-    let c6 = c4 .before .before in
-    let c8 = c6 .before .before in
-    ap asField (sym (unless-fault (c2 .number-fault .ensures) (c1 .code-of .ensures) _ _ (c .if1 .taken))
-    ∙ read _ (now (c8 .args .bytes)) (c8 .args .at) _ (sym (c4 .value .given .1) ∙ c6 .number-at .ensures))
-
-enum-told : tie.Need-enum-told
-enum-told c = search needs
-
-enum-told-2 : tie.Need-enum-told-2
-enum-told-2 c = search needs
+    let c4 = c .before .before .before .before in
+    let c8 = c4 .before .before .before .before in
+    ap asField (sym (unless-fault (c .before .before .number-fault .ensures) (c .before .code-of .ensures) _ _ (c .if1 .taken))
+    ∙ read _ (now (c8 .args .bytes)) (c8 .args .at) _ (sym (c4 .value .given .1) ∙ c4 .before .before .number-at .ensures))
 
 returns-2 : tie.Need-returns-2
 unfolding asked
 returns-2 c =
-    let c1 = c .before in
-    let c2 = c1 .before in
-    let c4 = c2 .before .before in
-    let c6 = c4 .before .before in
-    let c8 = c6 .before .before in
-    ap asField (sym (unless-good (c2 .number-fault .ensures) (c1 .code-of .ensures) _ _ (c .if1 .left))
-    ∙ read _ (now (c8 .args .bytes)) (c8 .args .at) _ (sym (c4 .value .given .1) ∙ c6 .number-at .ensures))
+    let c4 = c .before .before .before .before in
+    let c8 = c4 .before .before .before .before in
+    ap asField (sym (unless-good (c .before .before .number-fault .ensures) (c .before .code-of .ensures) _ _ (c .if1 .left))
+    ∙ read _ (now (c8 .args .bytes)) (c8 .args .at) _ (sym (c4 .value .given .1) ∙ c4 .before .before .number-at .ensures))
 
 returns-3 : tie.Need-returns-3
 unfolding asked
 returns-3 c =
-    let c2 = c .before .before in
-    let c4 = c2 .before .before in
-    ap asField (read _ (now (c4 .args .bytes)) (c4 .args .at) _ (sym (c .enum-told .given .1) ∙ c2 .number-at .ensures))
+    let c4 = c .before .before .before .before in
+    ap asField (read _ (now (c4 .args .bytes)) (c4 .args .at) _ (sym (c .enum-told .given .1) ∙ c .before .before .number-at .ensures))
 
 returns-4 : tie.Need-returns-4
 unfolding asked
 returns-4 c =
-    let c2 = c .before .before in
-    let c4 = c2 .before .before in
-    ap asField (read _ (now (c4 .args .bytes)) (c4 .args .at) _ (sym (c .enum-told2 .given .1) ∙ c2 .number-at .ensures))
+    let c4 = c .before .before .before .before in
+    ap asField (read _ (now (c4 .args .bytes)) (c4 .args .at) _ (sym (c .enum-told2 .given .1) ∙ c .before .before .number-at .ensures))
 
 pub read-field-spec : {M : Type 1} → statement M
 read-field-spec =
     tie.close
     (tie.spec
-    number-at-requires
-    enum-known-value
-    number-fault-requires
-    code-of-requires
+    (λ c κs. search needs)
+    (λ c. search needs)
+    (λ c κs. search needs)
+    (λ c κs. search needs)
     returns
-    enum-told
-    enum-told-2
+    (λ c. search needs)
+    (λ c. search needs)
     returns-2
     returns-3
     returns-4)

@@ -4,17 +4,16 @@ use native.Mathlib.Omega.{arith}
 use borrow.Author.Needs.{needs}
 use mathlib.Core.Path.{_≡_, refl, sym, ap, _∙_}
 use mathlib.Core.List.{List, [], _∷_, _++_}
-use lib.ListN.{length, getD, drop, set, length-append}
+use lib.ListN.{length, getD, drop, set, length-append, drop-of-length-le}
 use Rattle.lists.specs.Lists.{over}
 use Rattle.lists.proofs.Overs.{over-none, over-length, over-one}
 use Rattle.table.specs.declared.Verdict.{Verdict}
 use Rattle.table.specs.Fields.{field, wanted, LowsHighs}
 use Rattle.table.proofs.FieldRanges.{wanted-more, wanted-count}
 use Rattle.fields.specs.declared.Next.the-variants.{At, Refused}
-use Rattle.fields.specs.Stepping.{stop, go, fieldAt, fieldsAt}
-use Rattle.fields.specs.Promises.{readBefore, ReadInto}
+use Rattle.fields.specs.Stepping.{stop, go, _then_, fieldAt, fieldsAt}
+use Rattle.fields.specs.Promises.{stepped, readBefore, ReadInto}
 use Rattle.fields.proofs.Steps.{got-field, refused-field}
-use Rattle.fields.proofs.Steps.{fields-more, before-more, fields-stop, before-stop, fields-none, before-none}
 use Rattle.fields.proofs.read_fields.Statement.{statement}
 use Rattle.fields.proofs.read_fields.Tie as tie
 
@@ -45,26 +44,25 @@ module _ {s : List ℕ} {at : ℕ} {low high out₀ out : List ℕ} {p i : ℕ} 
       count = rw length-append (omega (arith, f .count));
       upto = omega (arith, long);
       put = rw (f .put, f .count) (over-one (f .done) out₀ v (omega (arith, f .count, long)));
-      same = f .same ∙ fields-more (wanted low high) _ i (f .done) s p next v n e;
-      before = f .before ∙ before-more (wanted low high) _ i (f .done) s p next v n e;
+      same = f .same ∙ (unfold fieldsAt _then_ in rw (next, e));
+      before = f .before ∙ (unfold readBefore stepped in rw (next, e));
     }
 
     -- a number is refused
     halts : (v : Verdict) → fieldAt (field (getD low i 0) (getD high i 0)) s p ≡ stop v
         → ReadInto (wanted low high) s at out₀ (Refused v) out
     halts v e = record {
-      next = rw (f .same, fields-stop (wanted low high) _ i (f .done) s p next v e);
-      room = f .put ∙ rw (f .before, before-stop (wanted low high) _ i (f .done) s p next v e);
+      next = unfold fieldsAt _then_ in rw (f .same, next, e);
+      room = f .put ∙ (unfold readBefore stepped in rw (f .before, next, e));
     }
 
   -- the room is full
   ends : length out ≤ i → ReadInto (wanted low high) s at out₀ (At p) out
+  unfolding fieldsAt readBefore
   ends h =
-      let past : length (wanted low high) ≤ i = rw (wanted-count (f .ranges)) (omega (arith, long)) in
-      record {
-        next = rw (f .same, fields-none (wanted low high) i (f .done) s p past);
-        room = f .put ∙ rw (f .before, before-none (wanted low high) i (f .done) s p past);
-      }
+      let all : length (wanted low high) ≤ i = rw (wanted-count (f .ranges)) (omega (arith, long)) in
+      let none : drop i (wanted low high) ≡ [] = drop-of-length-le (wanted low high) all in
+      record { next = rw (f .same, none); room = f .put ∙ rw (f .before, none) }
 
 abbrev Inv-loop : tie.InvT-loop
 Inv-loop bytes at low high out₀ p₀ i₀ out p i = Filling bytes at low high out₀ out p i
@@ -84,60 +82,17 @@ loop-holds c =
       before = refl;
     }
 
-mul-most : tie.Need-mul-most Inv-loop μ-loop
-mul-most c = omega (arith, long (c .before .loop .inv))
-
-shared-slice-read-most : tie.Need-shared-slice-read-most Inv-loop μ-loop
-shared-slice-read-most c = omega (arith, c .before .before .loop .inv .ranges .highs, long (c .before .before .loop .inv))
-
-mul-read-field : tie.Need-mul-read-field Inv-loop μ-loop
-mul-read-field c = omega (arith, long (c .before .before .loop .inv))
-
-shared-slice-read-read-field : tie.Need-shared-slice-read-read-field Inv-loop μ-loop
-shared-slice-read-read-field c =
-    let k = c .before .before .before .loop .inv in omega (arith, k .ranges .lows, long k)
-
-read-field-requires : tie.Need-read-field-requires Inv-loop μ-loop
-read-field-requires c κs = search needs
-
-enum-known-v : tie.Need-enum-known-v Inv-loop μ-loop
-enum-known-v c = search needs
-
-same-length : tie.Need-same-length Inv-loop μ-loop
-same-length c = long (c .before .before .before .before .before .before .before .loop .inv)
-
 returns : tie.Need-returns Inv-loop μ-loop
 returns c =
     let c3 = c .before .before .before in
     let c6 = c3 .before .before .before in
     halts (c6 .before .loop .inv) (c6 .loop-test .taken) _ (refused-field _ _ (sym (c .before .v .given .1) ∙ c3 .read-field .ensures))
 
-enum-known-value : tie.Need-enum-known-value Inv-loop μ-loop
-enum-known-value c = search needs
-
-mul-out : tie.Need-mul-out Inv-loop μ-loop
-mul-out c = omega (arith, long (c .before .before .before .before .before .before .before .loop .inv))
-
-slice-write-out : tie.Need-slice-write-out Inv-loop μ-loop
-slice-write-out c = search needs
-
-add-i : tie.Need-add-i Inv-loop μ-loop
-add-i c = omega (arith, long (c .before .before .before .before .before .before .before .loop .inv))
-
-loop-less : tie.Need-loop-less Inv-loop μ-loop
-loop-less c = omega (arith, long (c .before .before .before .before .before .before .before .loop .inv))
-
 loop-again : tie.Need-loop-again Inv-loop μ-loop
 loop-again c =
     let c3 = c .before .before .before in
     let c6 = c3 .before .before .before in
     turn (c6 .before .loop .inv) (c6 .loop-test .taken) _ _ (got-field _ _ _ (sym (c .before .value .given .1) ∙ c3 .read-field .ensures))
-
-same-length-2 : tie.Need-same-length-2 Inv-loop μ-loop
-same-length-2 c = long (c .before .loop .inv)
-
-returns-2 : tie.Need-returns-2 Inv-loop μ-loop
-returns-2 c = ends (c .before .loop .inv) (c .loop-test .left)
 
 pub read-fields-spec : {M : Type 1} → statement M
 read-fields-spec =
@@ -146,19 +101,19 @@ read-fields-spec =
     Inv-loop
     μ-loop
     loop-holds
-    mul-most
-    shared-slice-read-most
-    mul-read-field
-    shared-slice-read-read-field
-    read-field-requires
-    enum-known-v
-    same-length
+    (λ c. omega (arith, long (c .before .loop .inv)))
+    (λ c. omega (arith, c .before .before .loop .inv .ranges .highs, long (c .before .before .loop .inv)))
+    (λ c. omega (arith, long (c .before .before .loop .inv)))
+    (λ c. let k = c .before .before .before .loop .inv in omega (arith, k .ranges .lows, long k))
+    (λ c κs. search needs)
+    (λ c. search needs)
+    (λ c. long (c .before .before .before .before .before .before .before .loop .inv))
     returns
-    enum-known-value
-    mul-out
-    slice-write-out
-    add-i
-    loop-less
+    (λ c. search needs)
+    (λ c. omega (arith, long (c .before .before .before .before .before .before .before .loop .inv)))
+    (λ c. search needs)
+    (λ c. omega (arith, long (c .before .before .before .before .before .before .before .loop .inv)))
+    (λ c. omega (arith, long (c .before .before .before .before .before .before .before .loop .inv)))
     loop-again
-    same-length-2
-    returns-2)
+    (λ c. long (c .before .loop .inv))
+    (λ c. ends (c .before .loop .inv) (c .loop-test .left)))

@@ -17,10 +17,11 @@ use Rattle.table.specs.Fields.{fieldsOf}
 use Rattle.table.specs.Memory.{zeroRow, allTimes, tasksOf}
 use Rattle.table.specs.Faults.{faultOf}
 use Rattle.table.proofs.Rows.{length-mapped}
-use Rattle.table.proofs.GoodTasks.{count-same}
+use Rattle.table.proofs.GoodTasks.{count-few, count-same}
 use Rattle.table.proofs.Ahead.{Ahead, lent, lent-length, Next, next, none-ahead, good-ahead}
 use Rattle.files.specs.Writing.{rowNumbers, fileNumbers}
 use Rattle.files.specs.Promises.{InOrder}
+use Rattle.files.specs.RoundTrips.{InMemory}
 use Rattle.files.proofs.file_numbers.Statement.{statement}
 use Rattle.files.proofs.file_numbers.Tie as tie
 
@@ -101,12 +102,12 @@ unfolding over
 first-same n ns out = rw (drop-set-lt (length (n ∷ ns)) out 0 n (omega arith))
 
 -- from the row count on
-starts : (t : Table) (out : List ℕ) → length (t .rows) ≡ 64 → length (t .times) ≡ 1024 → length out ≡ 1473 → codeOf (faultOf t) ≡ 0
+starts : (t : Table) (out : List ℕ) → InMemory t → length out ≡ 1473 → codeOf (faultOf t) ≡ 0
     → Listing t (set out 0 (t .count)) (set out 0 (t .count)) 1 0 0
 unfolding fileNumbers
-starts t out rows times long fine =
-    let a = good-ahead t rows times fine in
-    let all : length (tasksOf t) ≡ t .count = count-same t rows times fine in
+starts t out m long fine =
+    let a = good-ahead t (m .rows) (m .times) fine in
+    let all : length (tasksOf t) ≡ t .count = count-same t (m .rows) (m .times) fine in
     record {
       left = tasksOf t;
       ahead = a;
@@ -119,11 +120,11 @@ starts t out rows times long fine =
     }
 
 -- as if the row count had not been stored before the loop
-put-all : (t : Table) (out : List ℕ) → length (t .rows) ≡ 64 → length (t .times) ≡ 1024 → codeOf (faultOf t) ≡ 0 → (r : ℕ) (out′ : List ℕ)
+put-all : (t : Table) (out : List ℕ) → InMemory t → codeOf (faultOf t) ≡ 0 → (r : ℕ) (out′ : List ℕ)
     → InOrder (fileNumbers (tasksOf t)) (set out 0 (t .count)) r out′ → InOrder (fileNumbers (tasksOf t)) out r out′
 unfolding fileNumbers
-put-all t out rows times fine r out′ o =
-    let all : length (tasksOf t) ≡ t .count = count-same t rows times fine in
+put-all t out m fine r out′ o =
+    let all : length (tasksOf t) ≡ t .count = count-same t (m .rows) (m .times) fine in
     record { count = o .count; fits = rw length-set at (o .fits); front = o .front ∙ rw all (first-same (t .count) _ out) }
 
 abbrev Inv-loop : tie.InvT-loop
@@ -131,6 +132,10 @@ Inv-loop out₀ t n times p₀ used₀ i₀ out p used i = Listing t out₀ out 
 
 abbrev μ-loop : tie.MeasureT-loop
 μ-loop out₀ t n times p₀ used₀ i₀ out p used i = t .count - i
+
+-- the table that is given
+in-memory : (c : tie.Start Inv-loop μ-loop) → InMemory (c .args .t1)
+in-memory c = record { rows = search (needs, length-mapped); times = search needs }
 
 -- the next row, where the code is at it
 here : (c : tie.In-loop Inv-loop μ-loop) → let l = c .before .loop in
@@ -150,97 +155,20 @@ room-here c =
     let l = c .before .loop .inv in
     record { times = search needs; within = here c .room; size = long l; numbers = fits l (here c) }
 
-cast-out : tie.Need-cast-out Inv-loop μ-loop
-cast-out c =
-    let t = c .before .before .args .t1 in
-    let rows : length (t .rows) ≡ 64 = search (needs, length-mapped) in
-    let times : length (t .times) ≡ 1024 = search needs in
-    omega (arith, good-ahead t rows times (c .before .before .pre .0) .few)
-
-slice-write-out : tie.Need-slice-write-out Inv-loop μ-loop
-slice-write-out c = omega (arith, c .before .before .pre .1)
-
-loop-holds : tie.Need-loop-holds Inv-loop μ-loop
-loop-holds c =
-    let t = c .before .before .args .t1 in
-    let rows : length (t .rows) ≡ 64 = search (needs, length-mapped) in
-    let times : length (t .times) ≡ 1024 = search needs in
-    starts t (c .before .before .args .out .now) rows times (c .before .before .pre .1) (c .before .before .pre .0)
-
-mul-row : tie.Need-mul-row Inv-loop μ-loop
-mul-row c = omega (arith, c .before .loop .inv .ahead .few)
-
-element-copy-out-row : tie.Need-element-copy-out-row Inv-loop μ-loop
-element-copy-out-row c = omega (arith, c .before .loop .inv .ahead .few)
-
-cast-end : tie.Need-cast-end Inv-loop μ-loop
-cast-end c = search needs
-
-add-end : tie.Need-add-end Inv-loop μ-loop
-add-end c = omega (arith, room-here (c .before .before))
-
-mul-put-row : tie.Need-mul-put-row Inv-loop μ-loop
-mul-put-row c = omega (arith, room-here (c .before .before))
-
-sub-put-row : tie.Need-sub-put-row Inv-loop μ-loop
-sub-put-row c = omega (arith, room-here (c .before .before))
-
-part-put-row-start : tie.Need-part-put-row-start Inv-loop μ-loop
-part-put-row-start c = omega (arith, room-here (c .before .before .before))
-
-part-put-row-end : tie.Need-part-put-row-end Inv-loop μ-loop
-part-put-row-end c = omega (arith, room-here (c .before .before .before))
-
-mul-put-row-2 : tie.Need-mul-put-row-2 Inv-loop μ-loop
-mul-put-row-2 c = omega (arith, room-here (c .before .before .before .before))
-
-sub-put-row-2 : tie.Need-sub-put-row-2 Inv-loop μ-loop
-sub-put-row-2 c = omega (arith, room-here (c .before .before .before .before))
-
-part-put-row-start-2 : tie.Need-part-put-row-start-2 Inv-loop μ-loop
-part-put-row-start-2 c = omega (arith, room-here (c .before .before .before .before))
-
-part-put-row-end-2 : tie.Need-part-put-row-end-2 Inv-loop μ-loop
-part-put-row-end-2 c = omega (arith, room-here (c .before .before .before .before))
-
 put-row-requires : tie.Need-put-row-requires Inv-loop μ-loop
 put-row-requires c κs =
     let c5 = c .before .before .before .before .before in
-    let l = c5 .before .loop in
-    rw (lent-length (here c5), length-take, length-drop)
-    (omega (arith, room-here c5))
-
-add-p : tie.Need-add-p Inv-loop μ-loop
-add-p c = omega (arith, room-here (c .before .before .before .before .before .before .before .before))
-
-cast-p : tie.Need-cast-p Inv-loop μ-loop
-cast-p c = search needs
-
-add-p-2 : tie.Need-add-p-2 Inv-loop μ-loop
-add-p-2 c = omega (arith, room-here (c .before .before .before .before .before .before .before .before .before))
-
-add-i : tie.Need-add-i Inv-loop μ-loop
-add-i c = search needs
-
-loop-less : tie.Need-loop-less Inv-loop μ-loop
-loop-less c = search needs
+    rw (lent-length (here c5), length-take, length-drop) (omega (arith, room-here c5))
 
 loop-again : tie.Need-loop-again Inv-loop μ-loop
 loop-again c =
-    let c3 = c .before .before .before in
-    let c9 = c3 .before .before .before .before .before .before in
-    turn (c9 .before .loop .inv) (here c9) _ (c3 .put-row .ensures)
-
-same-length : tie.Need-same-length Inv-loop μ-loop
-same-length c = long (c .before .loop .inv) ∙ sym (c .before .before .before .before .pre .1)
+    let c9 = c .before .before .before .before .before .before .before .before .before in
+    turn (c9 .before .loop .inv) (here c9) _ (c .before .before .before .put-row .ensures)
 
 returns : tie.Need-returns Inv-loop μ-loop
 returns c =
-    let t = c .before .before .before .before .args .t1 in
-    let rows : length (t .rows) ≡ 64 = search (needs, length-mapped) in
-    let times : length (t .times) ≡ 1024 = search needs in
-    put-all t (c .before .before .before .before .args .out .now) rows times (c .before .before .before .before .pre .0) _ _
-    (ends (c .before .loop .inv) (c .loop-test .left))
+    let a = c .before .before .before .before in
+    put-all _ (a .args .out .now) (in-memory a) (a .pre .0) _ _ (ends (c .before .loop .inv) (c .loop-test .left))
 
 pub file-numbers-spec : {M : Type 1} → statement M
 file-numbers-spec =
@@ -248,27 +176,27 @@ file-numbers-spec =
     (tie.spec
     Inv-loop
     μ-loop
-    cast-out
-    slice-write-out
-    loop-holds
-    mul-row
-    element-copy-out-row
-    cast-end
-    add-end
-    mul-put-row
-    sub-put-row
-    part-put-row-start
-    part-put-row-end
-    mul-put-row-2
-    sub-put-row-2
-    part-put-row-start-2
-    part-put-row-end-2
+    (λ c. let a = c .before .before in let m = in-memory a in omega (arith, count-few _ (m .rows) (m .times) (a .pre .0)))
+    (λ c. omega (arith, c .before .before .pre .1))
+    (λ c. let a = c .before .before in starts _ (a .args .out .now) (in-memory a) (a .pre .1) (a .pre .0))
+    (λ c. omega (arith, c .before .loop .inv .ahead .few))
+    (λ c. omega (arith, c .before .loop .inv .ahead .few))
+    (λ c. search needs)
+    (λ c. omega (arith, room-here (c .before .before)))
+    (λ c. omega (arith, room-here (c .before .before)))
+    (λ c. omega (arith, room-here (c .before .before)))
+    (λ c. omega (arith, room-here (c .before .before .before)))
+    (λ c. omega (arith, room-here (c .before .before .before)))
+    (λ c. omega (arith, room-here (c .before .before .before .before)))
+    (λ c. omega (arith, room-here (c .before .before .before .before)))
+    (λ c. omega (arith, room-here (c .before .before .before .before)))
+    (λ c. omega (arith, room-here (c .before .before .before .before)))
     put-row-requires
-    add-p
-    cast-p
-    add-p-2
-    add-i
-    loop-less
+    (λ c. omega (arith, room-here (c .before .before .before .before .before .before .before .before)))
+    (λ c. search needs)
+    (λ c. omega (arith, room-here (c .before .before .before .before .before .before .before .before .before)))
+    (λ c. search needs)
+    (λ c. search needs)
     loop-again
-    same-length
+    (λ c. long (c .before .loop .inv) ∙ sym (c .before .before .before .before .pre .1))
     returns)

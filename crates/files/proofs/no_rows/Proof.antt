@@ -7,11 +7,9 @@ use Rattle.fields.specs.declared.Next.the-variants.{Refused}
 use Rattle.files.proofs.no_rows.Statement.{statement}
 use Rattle.files.proofs.no_rows.Tie as tie
 
-zeros-requires : tie.Need-zeros-requires
-zeros-requires c κs = search needs
-
-returns : tie.Need-returns
-returns c = ap {B = Body} (λ (t : Table). record { next = Refused (c .before .args .v); table = t }) (c .zeros .ensures)
-
 pub no-rows-spec : {M : Type 1} → statement M
-no-rows-spec = tie.close (tie.spec zeros-requires returns)
+no-rows-spec =
+    tie.close
+    (tie.spec
+    (λ c κs. search needs)
+    (λ c. ap {B = Body} (λ (t : Table). record { next = Refused (c .before .args .v); table = t }) (c .zeros .ensures)))

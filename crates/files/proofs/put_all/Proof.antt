@@ -69,49 +69,16 @@ loop-holds : tie.Need-loop-holds Inv-loop μ-loop
 loop-holds c =
     record { fits = c .before .before .pre; upto = search needs; place = unfold each in refl; put = unfold each in sym (over-none _) }
 
-sub-put-number : tie.Need-sub-put-number Inv-loop μ-loop
-sub-put-number c = omega (arith, within (c .before .loop .inv), long (c .before .loop .inv))
-
-part-put-number-start : tie.Need-part-put-number-start Inv-loop μ-loop
-part-put-number-start c = omega (arith, within (c .before .loop .inv), long (c .before .loop .inv))
-
-part-put-number-end : tie.Need-part-put-number-end Inv-loop μ-loop
-part-put-number-end c = omega (arith, within (c .before .loop .inv), long (c .before .loop .inv))
-
-mul-put-number : tie.Need-mul-put-number Inv-loop μ-loop
-mul-put-number c = search needs
-
-shared-slice-read-put-number : tie.Need-shared-slice-read-put-number Inv-loop μ-loop
-shared-slice-read-put-number c = search needs
-
-put-number-requires : tie.Need-put-number-requires Inv-loop μ-loop
-put-number-requires c κs = search needs
-
 add-p : tie.Need-add-p Inv-loop μ-loop
 add-p c =
     let c2 = c .before .before in
     let c5 = c2 .before .before .before in
-    let c6 = c5 .before in
-    omega (arith, fits-here (c6 .loop .inv) (c5 .loop-test .taken) _ _ (c2 .put-number .ensures), long (c6 .loop .inv))
-
-add-i : tie.Need-add-i Inv-loop μ-loop
-add-i c = search needs
-
-loop-less : tie.Need-loop-less Inv-loop μ-loop
-loop-less c = search needs
+    omega (arith, fits-here (c5 .before .loop .inv) (c5 .loop-test .taken) _ _ (c2 .put-number .ensures), long (c5 .before .loop .inv))
 
 loop-again : tie.Need-loop-again Inv-loop μ-loop
 loop-again c =
     let c2 = c .before .before in
-    let c5 = c2 .before .before .before in
-    let c6 = c5 .before in
-    turn (c6 .loop .inv) (c5 .loop-test .taken) _ _ (c2 .put-number .ensures)
-
-same-length : tie.Need-same-length Inv-loop μ-loop
-same-length c = long (c .before .loop .inv)
-
-returns : tie.Need-returns Inv-loop μ-loop
-returns c = ends (c .before .loop .inv) (c .loop-test .left)
+    turn (c2 .before .before .before .before .loop .inv) (c2 .before .before .before .loop-test .taken) _ _ (c2 .put-number .ensures)
 
 pub put-all-spec : {M : Type 1} → statement M
 put-all-spec =
@@ -120,15 +87,15 @@ put-all-spec =
     Inv-loop
     μ-loop
     loop-holds
-    sub-put-number
-    part-put-number-start
-    part-put-number-end
-    mul-put-number
-    shared-slice-read-put-number
-    put-number-requires
+    (λ c. omega (arith, within (c .before .loop .inv), long (c .before .loop .inv)))
+    (λ c. omega (arith, within (c .before .loop .inv), long (c .before .loop .inv)))
+    (λ c. omega (arith, within (c .before .loop .inv), long (c .before .loop .inv)))
+    (λ c. search needs)
+    (λ c. search needs)
+    (λ c κs. search needs)
     add-p
-    add-i
-    loop-less
+    (λ c. search needs)
+    (λ c. search needs)
     loop-again
-    same-length
-    returns)
+    (λ c. long (c .before .loop .inv))
+    (λ c. ends (c .before .loop .inv) (c .loop-test .left)))

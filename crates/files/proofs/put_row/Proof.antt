@@ -22,48 +22,23 @@ both-put row fields times out first part own room one two =
     new-behind (fieldsOf row) out times first 7 front (omega arith) room part two
     ∙ sym (over-sets (fieldsOf row ++ times) out (rw length-append room))
 
-fields-of-requires : tie.Need-fields-of-requires
-fields-of-requires c κs = search needs
-
-slice-aggregate-copy : tie.Need-slice-aggregate-copy
-slice-aggregate-copy c = search needs
-
-copy-requires : tie.Need-copy-requires
-copy-requires c κs = search needs
-
-sub-copy : tie.Need-sub-copy
-sub-copy c = search needs
-
-part-copy-start : tie.Need-part-copy-start
-part-copy-start c = search needs
-
-part-copy-end : tie.Need-part-copy-end
-part-copy-end c = search needs
-
-copy-requires-2 : tie.Need-copy-requires-2
-copy-requires-2 c κs = search needs
-
-same-length : tie.Need-same-length
-same-length c = search needs
-
 returns : tie.Need-returns
 returns c =
-    let c2 = c .before .before in
-    let c6 = c2 .before .before .before .before in
+    let c6 = c .before .before .before .before .before .before in
     let c9 = c6 .before .before .before in
     let c12 = c9 .before .before .before in
-    both-put _ _ (c12 .args .times .now) _ _ _ (c9 .fields-of .ensures) (c12 .pre) (c6 .copy .ensures) (c2 .copy2 .ensures)
+    both-put _ _ (c12 .args .times .now) _ _ _ (c9 .fields-of .ensures) (c12 .pre) (c6 .copy .ensures) (c .before .before .copy2 .ensures)
 
 pub put-row-spec : {M : Type 1} → statement M
 put-row-spec =
     tie.close
     (tie.spec
-    fields-of-requires
-    slice-aggregate-copy
-    copy-requires
-    sub-copy
-    part-copy-start
-    part-copy-end
-    copy-requires-2
-    same-length
+    (λ c κs. search needs)
+    (λ c. search needs)
+    (λ c κs. search needs)
+    (λ c. search needs)
+    (λ c. search needs)
+    (λ c. search needs)
+    (λ c κs. search needs)
+    (λ c. search needs)
     returns)

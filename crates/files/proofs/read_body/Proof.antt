@@ -59,38 +59,22 @@ module _ (s : List ℕ) (b : Body) where
       let lies : b .table ≡ stored ts = ap (λ (k : Body). k .table) read in
       said ∙ ap (closed s p) lies ∙ rw (closes s ts p, same)
 
-read-rows-requires : tie.Need-read-rows-requires
-read-rows-requires c κs = search needs
-
-enum-known-next : tie.Need-enum-known-next
-enum-known-next c = search needs
-
-refuse-requires : tie.Need-refuse-requires
-refuse-requires c κs = search needs
-
-enum-known-next-2 : tie.Need-enum-known-next-2
-enum-known-next-2 c = search needs
-
-read-end-requires : tie.Need-read-end-requires
-read-end-requires c κs = search needs
-
 returns : tie.Need-returns
 returns c = c .refuse .ensures ∙ stops _ _ _ (c .before .before .before .before .read-rows .ensures) _ (c .before .before .next .given .1)
 
 returns-2 : tie.Need-returns-2
 returns-2 c =
     let c3 = c .before .before .before in
-    let c5 = c3 .before .before in
-    ends _ _ _ (c5 .read-rows .ensures) _ _ (c3 .next2 .given .1) (c .read-end .ensures)
+    ends _ _ _ (c3 .before .before .read-rows .ensures) _ _ (c3 .next2 .given .1) (c .read-end .ensures)
 
 pub read-body-spec : {M : Type 1} → statement M
 read-body-spec =
     tie.close
     (tie.spec
-    read-rows-requires
-    enum-known-next
-    refuse-requires
-    enum-known-next-2
-    read-end-requires
+    (λ c κs. search needs)
+    (λ c. search needs)
+    (λ c κs. search needs)
+    (λ c. search needs)
+    (λ c κs. search needs)
     returns
     returns-2)

@@ -35,45 +35,25 @@ module _ (s : List ℕ) (at : ℕ) (t : Table) where
     unfolding closed
     fine e = rw (le-ltb at (length s) all, ← said, is-good v (sym code ∙ e))
 
-refuse-requires : tie.Need-refuse-requires
-refuse-requires c κs = search needs
-
-returns : tie.Need-returns
-returns c = c .refuse .ensures ∙ past _ _ _ (c .before .if1 .taken)
-
-clash-of-requires : tie.Need-clash-of-requires
-clash-of-requires c κs = search needs
-
-code-of-requires : tie.Need-code-of-requires
-code-of-requires c κs = search needs
-
-refuse-requires-2 : tie.Need-refuse-requires-2
-refuse-requires-2 c κs = search needs
-
 returns-2 : tie.Need-returns-2
 returns-2 c =
-    let c1 = c .before in
-    let c2 = c1 .before in
-    let c3 = c2 .before in
-    let c4 = c3 .before in
-    c .refuse2 .ensures ∙ clashes _ _ _ _ _ (c3 .clash-of .ensures) (c2 .code-of .ensures) (c4 .if1 .left)
-    (c1 .if2 .taken)
+    let c2 = c .before .before in
+    c .refuse2 .ensures ∙ clashes _ _ _ _ _ (c2 .before .clash-of .ensures) (c2 .code-of .ensures) (c2 .before .before .if1 .left)
+    (c .before .if2 .taken)
 
 returns-3 : tie.Need-returns-3
 returns-3 c =
     let c1 = c .before in
-    let c2 = c1 .before in
-    let c3 = c2 .before in
-    fine _ _ _ _ _ (c2 .clash-of .ensures) (c1 .code-of .ensures) (c3 .if1 .left) (c .if2 .left)
+    fine _ _ _ _ _ (c1 .before .clash-of .ensures) (c1 .code-of .ensures) (c1 .before .before .if1 .left) (c .if2 .left)
 
 pub read-end-spec : {M : Type 1} → statement M
 read-end-spec =
     tie.close
     (tie.spec
-    refuse-requires
-    returns
-    clash-of-requires
-    code-of-requires
-    refuse-requires-2
+    (λ c κs. search needs)
+    (λ c. c .refuse .ensures ∙ past _ _ _ (c .before .if1 .taken))
+    (λ c κs. search needs)
+    (λ c κs. search needs)
+    (λ c κs. search needs)
     returns-2
     returns-3)

@@ -59,90 +59,42 @@ module _ (used : ℕ) (s : List ℕ) (at : ℕ) where
       unfolding _then_
       ends v n e = rw (in-two, plain, e, set-at part 0 [] v 6 count)
 
-slice-aggregate-read-fields : tie.Need-slice-aggregate-read-fields
-slice-aggregate-read-fields c = search needs
-
-slice-aggregate-read-fields-2 : tie.Need-slice-aggregate-read-fields-2
-slice-aggregate-read-fields-2 c = search needs
-
-array-borrow-prefix-fields : tie.Need-array-borrow-prefix-fields
-array-borrow-prefix-fields c = search needs
-
-slice-aggregate-read-fields-3 : tie.Need-slice-aggregate-read-fields-3
-slice-aggregate-read-fields-3 c = search needs
-
-read-fields-requires : tie.Need-read-fields-requires
-read-fields-requires c κs = search needs
-
-enum-known-v : tie.Need-enum-known-v
-enum-known-v c = search needs
-
-enum-known-p : tie.Need-enum-known-p
-enum-known-p c = search needs
-
-sub-read-field : tie.Need-sub-read-field
-sub-read-field c = search needs
-
-read-field-requires : tie.Need-read-field-requires
-read-field-requires c κs = search needs
-
-enum-known-v-2 : tie.Need-enum-known-v-2
-enum-known-v-2 c = search needs
-
-enum-known-value : tie.Need-enum-known-value
-enum-known-value c = search needs
-
-array-write-fields : tie.Need-array-write-fields
-array-write-fields c = search needs
-
-row-of-requires : tie.Need-row-of-requires
-row-of-requires c κs = search needs
-
 returns : tie.Need-returns
 unfolding lows highs
-returns c =
-    let c1 = c .before in
-    let c4 = c1 .before .before .before in
-    plain-stops _ _ _ _ refl _ _ (c4 .read-fields .ensures) _ (c1 .v .given .1)
+returns c = plain-stops _ _ _ _ refl _ _ (c .before .before .before .before .read-fields .ensures) _ (c .before .v .given .1)
 
 returns-2 : tie.Need-returns-2
 unfolding lows highs
 returns-2 c =
-    let c1 = c .before in
-    let c3 = c1 .before .before in
-    let c5 = c3 .before .before in
-    let c8 = c5 .before .before .before in
-    count-stops _ _ _ _ refl _ _ (c8 .read-fields .ensures) _ (c5 .p .given .1) _
-    (refused-field _ _ (sym (c1 .v2 .given .1) ∙ c3 .read-field .ensures))
+    let c5 = c .before .before .before .before .before in
+    count-stops _ _ _ _ refl _ _ (c5 .before .before .before .read-fields .ensures) _ (c5 .p .given .1) _
+    (refused-field _ _ (sym (c .before .v2 .given .1) ∙ c .before .before .before .read-field .ensures))
 
 returns-3 : tie.Need-returns-3
 unfolding lows highs
 returns-3 c =
-    let c2 = c .before .before in
-    let c4 = c2 .before .before in
-    let c6 = c4 .before .before in
-    let c9 = c6 .before .before .before in
-    ap (λ (row : Row). H.Got row (c2 .value .given .0 .1 .0)) (c .row-of .ensures)
-    ∙ ends _ _ _ _ refl _ _ (c9 .read-fields .ensures) _ (c6 .p .given .1) _ _
-    (got-field _ _ _ (sym (c2 .value .given .1) ∙ c4 .read-field .ensures))
+    let c6 = c .before .before .before .before .before .before in
+    ap (λ (row : Row). H.Got row (c .before .before .value .given .0 .1 .0)) (c .row-of .ensures)
+    ∙ ends _ _ _ _ refl _ _ (c6 .before .before .before .read-fields .ensures) _ (c6 .p .given .1) _ _
+    (got-field _ _ _ (sym (c .before .before .value .given .1) ∙ c .before .before .before .before .read-field .ensures))
 
 pub read-head-spec : {M : Type 1} → statement M
 read-head-spec =
     tie.close
     (tie.spec
-    slice-aggregate-read-fields
-    slice-aggregate-read-fields-2
-    array-borrow-prefix-fields
-    slice-aggregate-read-fields-3
-    read-fields-requires
-    enum-known-v
-    enum-known-p
-    sub-read-field
-    read-field-requires
-    enum-known-v-2
-    enum-known-value
-    array-write-fields
-    row-of-requires
+    (λ c. search needs)
+    (λ c. search needs)
+    (λ c. search needs)
+    (λ c. search needs)
+    (λ c κs. search needs)
+    (λ c. search needs)
+    (λ c. search needs)
+    (λ c. search needs)
+    (λ c κs. search needs)
+    (λ c. search needs)
+    (λ c. search needs)
+    (λ c. search needs)
+    (λ c κs. search needs)
     returns
     returns-2
     returns-3)

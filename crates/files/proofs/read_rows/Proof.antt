@@ -24,7 +24,7 @@ use Rattle.files.specs.Reading.{rowAt, rowsAt}
 use Rattle.files.specs.Promises.{asBody}
 use Rattle.fields.proofs.Into.{into-at, into-refused}
 use Rattle.files.proofs.Steps.{GotHead, got-head, refused-head}
-use Rattle.files.proofs.Steps.{row-more, row-fields-stop, row-times-stop, rows-more, rows-stop, rows-none}
+use Rattle.files.proofs.Steps.{row-more, row-fields-stop, row-times-stop, rows-more, rows-stop}
 use Rattle.fields.proofs.Taken.{taken-all, head-read}
 use Rattle.files.proofs.read_rows.Statement.{statement}
 use Rattle.files.proofs.read_rows.Tie as tie
@@ -39,58 +39,64 @@ record Loading (s : List ℕ) (at n : ℕ) (rows : List Row) (times : List ℕ) 
 module _ {s : List ℕ} {at n : ℕ} {rows : List Row} {times : List ℕ} {p used i : ℕ} (l : Loading s at n rows times p used i) where
   -- after the last row
   ends : n ≤ i → record { next = At p; table = record { count = n; rows = rows; times = times } } ≡ asBody (rowsAt n [] s at)
+  unfolding rowsAt
   ends h =
       let last : n ≡ i = omega (arith, l .upto) in
       let none : n - i ≡ 0 = omega arith in
-      let read : rowsAt n [] s at ≡ go (l .done) p = l .same ∙ rw (none, rows-none) in
+      let read : rowsAt n [] s at ≡ go (l .done) p = l .same ∙ rw none in
       ap (λ (k : ℕ). record { next = At p; table = record { count = k; rows = rows; times = times } }) last
       ∙ ap (λ (t : Table). record { next = At p; table = t }) (laid-stored (l .laid))
       ∙ sym (ap asBody read)
 
-  module _ (few : n ≤ 64) (some : i < n) where
-    -- the row that is read now, after those that are done
+  -- a row is left, after those that are done
+  module _ (some : i < n) where
+    -- as the definition has it
     here : {x : Step Task} → rowAt used s p ≡ x → rowAt (length (allTimes (l .done))) s p ≡ x
     here e = rw (l .laid .total) at e
 
-    -- a row is refused
+    -- it is refused
     stops : (v : Verdict) → rowAt used s p ≡ stop v → asBody (stop v) ≡ asBody (rowsAt n [] s at)
     stops v e = sym (ap asBody (l .same ∙ rows-stop (n - i) (l .done) s p (omega arith) v (here e)))
 
-    -- by its fields
-    head-stops : (v : Verdict) → fieldsAt (head used) [] s p ≡ stop v → asBody (stop v) ≡ asBody (rowsAt n [] s at)
-    head-stops v e = stops v (row-fields-stop used s p v e)
+-- a row is left, and its fields were got
+record RowGot (s : List ℕ) (at n : ℕ) (rows : List Row) (times : List ℕ) (p used i : ℕ) (row : Row) (q : ℕ) : Type 0 where
+  so-far : Loading s at n rows times p used i
+  few : n ≤ 64
+  some : i < n
+  got : GotHead (fieldsAt (head used) [] s p) row q
 
-    module _ {row : Row} {q : ℕ} (g : GotHead (fieldsAt (head used) [] s p) row q) where
-      -- its fields are in their ranges
-      good-row : GoodHead used row
-      good-row = rw (g .is) at (head-read used s p (g .fields) q (g .first))
+module _ {s : List ℕ} {at n : ℕ} {rows : List Row} {times : List ℕ} {p used i : ℕ} {row : Row} {q : ℕ}
+    (g : RowGot s at n rows times p used i row q) where
+  -- its fields are in their ranges
+  good-row : GoodHead used row
+  good-row = rw (g .got .is) at (head-read used s p (g .got .fields) q (g .got .first))
 
-      -- the part of the times that is lent has a place for each
-      slot : length (take (used + row .parts - used) (drop used times)) ≡ row .parts
-      slot = part-length used (row .parts) times (rw (times-long (l .laid) (l .room)) (good-row .room))
+  -- the part of the times that is lent has a place for each
+  slot : length (take (used + row .parts - used) (drop used times)) ≡ row .parts
+  slot = part-length used (row .parts) times (rw (times-long (g .so-far .laid) (g .so-far .room)) (good-row .room))
 
-      -- or by its times
-      times-stops : (v : Verdict) → fieldsAt (replicate (row .parts) time) [] s q ≡ stop v → asBody (stop v) ≡ asBody (rowsAt n [] s at)
-      times-stops v e = stops v (row-times-stop used s p g v e)
+  -- its times are refused
+  times-stop : (v : Verdict) → fieldsAt (replicate (row .parts) time) [] s q ≡ stop v → asBody (stop v) ≡ asBody (rowsAt n [] s at)
+  times-stop v e = stops (g .so-far) (g .some) v (row-times-stop used s p (g .got) v e)
 
-      module _ (ts : List ℕ) (m : ℕ) (read : fieldsAt (replicate (row .parts) time) [] s q ≡ go ts m) where
-        -- as many times as the row has parts
-        full : length ts ≡ row .parts
-        full = all-length _ ts (taken-all (replicate (row .parts) time) s q ts m read .fine) ∙ length-replicate (row .parts) time
-
-        -- one row more
-        turn : Loading s at n (set rows i row) (take used times ++ (ts ++ drop (used + row .parts - used) (drop used times))) m
-            (used + row .parts) (i + 1)
-        turn =
-            let left : n - i - 1 ≡ n - (i + 1) = omega arith in
-            let read-on = rows-more (n - i) (l .done) s p (omega arith) (taskOf row ts) m (here (row-more used s p g ts m read)) in
-            record {
-              done = l .done ++ (taskOf row ts ∷ []);
-              laid = laid-part (l .laid) (taskOf row ts) row ts (rw full) refl (omega arith) (good-row .room);
-              upto = omega arith;
-              room = good-row .room;
-              same = l .same ∙ read-on ∙ rw left;
-            }
+  -- its times are read: one row more
+  turn : (ts : List ℕ) (m : ℕ) → fieldsAt (replicate (row .parts) time) [] s q ≡ go ts m
+      → Loading s at n (set rows i row) (take used times ++ (ts ++ drop (used + row .parts - used) (drop used times))) m
+      (used + row .parts) (i + 1)
+  turn ts m read =
+      let l = g .so-far in
+      let times-of = replicate (row .parts) time in
+      let full = all-length _ ts (taken-all times-of s q ts m read .fine) ∙ length-replicate (row .parts) time in
+      let left : n - i - 1 ≡ n - (i + 1) = omega arith in
+      let this = here l (g .some) (row-more used s p (g .got) ts m read) in
+      let read-on = rows-more (n - i) (l .done) s p (omega (arith, g .some)) (taskOf row ts) m this in
+      record {
+        done = l .done ++ (taskOf row ts ∷ []);
+        laid = laid-part (l .laid) (taskOf row ts) row ts (rw full) refl (omega (arith, g .some, g .few)) (good-row .room);
+        upto = omega (arith, g .some);
+        room = good-row .room;
+        same = l .same ∙ read-on ∙ rw left;
+      }
 
 abbrev Inv-loop : tie.InvT-loop
 Inv-loop bytes at n rows₀ times₀ p₀ used₀ i₀ rows times p used i = Loading bytes at n rows times p used i
@@ -98,31 +104,18 @@ Inv-loop bytes at n rows₀ times₀ p₀ used₀ i₀ rows times p used i = Loa
 abbrev μ-loop : tie.MeasureT-loop
 μ-loop bytes at n rows₀ times₀ p₀ used₀ i₀ rows times p used i = n - i
 
--- the fields of the row that is read now
-got-row : (c : tie.After-row Inv-loop μ-loop) → let l = c .before .before .before .before in
-    GotHead (fieldsAt (head (l .loop .used)) [] (l .before .before .before .args .bytes .now) (l .loop .p)) (c .row .given .0 .0)
-    (c .row .given .0 .1 .0)
+-- the row that is read now
+got-row : (c : tie.After-row Inv-loop μ-loop) → let b = c .before .before .before .before in
+    let a = b .before .before .before .args in let l = b .loop in
+    RowGot (a .bytes .now) (a .at) (a .n) (l .rows) (l .times) (l .p) (l .used) (l .i) (c .row .given .0 .0) (c .row .given .0 .1 .0)
 got-row c =
-    let c2 = c .before .before in
-    got-head _ _ _ (sym (c .row .given .1) ∙ c2 .read-head .ensures)
-
-row-of-head : (c : tie.After-row Inv-loop μ-loop) → GoodHead (c .before .before .before .before .loop .used) (c .row .given .0 .0)
-row-of-head c =
     let c3 = c .before .before .before in
-    let c4 = c3 .before in
-    let c7 = c4 .before .before .before in
-    good-row (c4 .loop .inv) (c7 .pre) (c3 .loop-test .taken) (got-row c)
-
-slot-of : (c : tie.After-row Inv-loop μ-loop) → let l = c .before .before .before .before .loop in let parts = c .row .given .0 .0 .parts in
-    length (take (l .used + parts - l .used) (drop (l .used) (l .times))) ≡ parts
-slot-of c =
-    let c3 = c .before .before .before in
-    let c4 = c3 .before in
-    let c7 = c4 .before .before .before in
-    slot (c4 .loop .inv) (c7 .pre) (c3 .loop-test .taken) (got-row c)
-
-row-of-requires : tie.Need-row-of-requires Inv-loop μ-loop
-row-of-requires c κs = search needs
+    record {
+      so-far = c3 .before .loop .inv;
+      few = c3 .before .before .before .before .pre;
+      some = c3 .loop-test .taken;
+      got = got-head _ _ _ (sym (c .row .given .1) ∙ c .before .before .read-head .ensures);
+    }
 
 loop-holds : tie.Need-loop-holds Inv-loop μ-loop
 unfolding each
@@ -135,107 +128,29 @@ loop-holds c =
       same = rw sub-zero;
     }
 
-read-head-requires : tie.Need-read-head-requires Inv-loop μ-loop
-read-head-requires c κs = c .before .loop .inv .room
-
-enum-known-v : tie.Need-enum-known-v Inv-loop μ-loop
-enum-known-v c = search needs
-
-no-rows-requires : tie.Need-no-rows-requires Inv-loop μ-loop
-no-rows-requires c κs = search needs
-
 returns : tie.Need-returns Inv-loop μ-loop
 returns c =
-    let c2 = c .before .before in
-    let c4 = c2 .before .before in
-    let c5 = c4 .before in
-    let c6 = c5 .before in
-    let c9 = c6 .before .before .before in
-    c .no-rows .ensures ∙ head-stops (c6 .loop .inv) (c9 .pre) (c5 .loop-test .taken) _
-    (refused-head _ _ (sym (c2 .v .given .1) ∙ c4 .read-head .ensures))
-
-enum-known-row : tie.Need-enum-known-row Inv-loop μ-loop
-enum-known-row c = search needs
-
-add-end : tie.Need-add-end Inv-loop μ-loop
-add-end c = omega (arith, row-of-head (c .before .before) .room)
-
-cast-a : tie.Need-cast-a Inv-loop μ-loop
-cast-a c = omega (arith, row-of-head (c .before .before) .room)
-
-cast-e : tie.Need-cast-e Inv-loop μ-loop
-cast-e c = omega (arith, row-of-head (c .before .before) .room)
-
-mul-times : tie.Need-mul-times Inv-loop μ-loop
-mul-times c = omega (arith, row-of-head (c .before .before) .room)
-
-sub-read-times : tie.Need-sub-read-times Inv-loop μ-loop
-sub-read-times c = omega (arith, row-of-head (c .before .before) .room)
-
-part-times-start : tie.Need-part-times-start Inv-loop μ-loop
-part-times-start c = omega (arith, row-of-head (c .before .before) .room)
+    let c4 = c .before .before .before .before in
+    c .no-rows .ensures ∙ stops (c4 .before .before .loop .inv) (c4 .before .loop-test .taken) _
+    (row-fields-stop _ _ _ _ (refused-head _ _ (sym (c .before .before .v .given .1) ∙ c4 .read-head .ensures)))
 
 part-times-end : tie.Need-part-times-end Inv-loop μ-loop
 part-times-end c =
-    let c6 = c .before .before .before .before .before .before in
-    omega (
-      arith,
-      row-of-head (c .before .before) .room,
-      times-long (c6 .loop .inv .laid) (c6 .loop .inv .room),
-    )
-
-read-times-requires : tie.Need-read-times-requires Inv-loop μ-loop
-read-times-requires c κs = rw (slot-of (c .before .before .before)) (row-of-head (c .before .before .before) .parts .most)
-
-enum-known-v-2 : tie.Need-enum-known-v-2 Inv-loop μ-loop
-enum-known-v-2 c = search needs
-
-no-rows-requires-2 : tie.Need-no-rows-requires-2 Inv-loop μ-loop
-no-rows-requires-2 c κs = search needs
+    let g = got-row (c .before .before) in
+    omega (arith, good-row g .room, times-long (g .so-far .laid) (g .so-far .room))
 
 returns-2 : tie.Need-returns-2 Inv-loop μ-loop
 returns-2 c =
-    let c2 = c .before .before in
-    let c5 = c2 .before .before .before in
-    let c9 = c5 .before .before .before .before in
-    let c12 = c9 .before .before .before in
-    let c13 = c12 .before in
-    let c16 = c13 .before .before .before in
-    c .no-rows2 .ensures ∙ times-stops (c13 .loop .inv) (c16 .pre) (c12 .loop-test .taken) (got-row (c9)) _
-    (rw (slot-of (c9)) at (into-refused _ (rw (c2 .v2 .given .1) at (c5 .read-times .ensures))))
-
-enum-known-q : tie.Need-enum-known-q Inv-loop μ-loop
-enum-known-q c = search needs
-
-mul-rows : tie.Need-mul-rows Inv-loop μ-loop
-mul-rows c =
-    let c15 = c .before .before .before .before .before .before .before .before .before .before .before .before .before .before .before in
-    omega (arith, c15 .pre)
-
-array-set-from-rows : tie.Need-array-set-from-rows Inv-loop μ-loop
-array-set-from-rows c =
-    let c15 = c .before .before .before .before .before .before .before .before .before .before .before .before .before .before .before in
-    omega (arith, c15 .pre)
-
-add-i : tie.Need-add-i Inv-loop μ-loop
-add-i c = omega arith
-
-loop-less : tie.Need-loop-less Inv-loop μ-loop
-loop-less c = omega arith
+    let c5 = c .before .before .before .before .before in
+    let g = got-row (c5 .before .before .before .before) in
+    c .no-rows2 .ensures ∙ times-stop g _
+    (rw (slot g) at (into-refused _ (rw (c .before .before .v2 .given .1) at (c5 .read-times .ensures))))
 
 loop-again : tie.Need-loop-again Inv-loop μ-loop
 loop-again c =
-    let c1 = c .before in
-    let c4 = c1 .before .before .before in
-    let c8 = c4 .before .before .before .before in
-    let c11 = c8 .before .before .before in
-    let c12 = c11 .before in
-    let c15 = c12 .before .before .before in
-    turn (c12 .loop .inv) (c15 .pre) (c11 .loop-test .taken) (got-row (c8)) _ _
-    (rw (slot-of (c8)) at (into-at _ (length-replicate _ time) (rw (c1 .q .given .1) at (c4 .read-times .ensures))))
-
-returns-3 : tie.Need-returns-3 Inv-loop μ-loop
-returns-3 c = ends (c .before .loop .inv) (c .loop-test .left)
+    let c4 = c .before .before .before .before in
+    let g = got-row (c4 .before .before .before .before) in
+    turn g _ _ (rw (slot g) at (into-at _ (length-replicate _ time) (rw (c .before .q .given .1) at (c4 .read-times .ensures))))
 
 pub read-rows-spec : {M : Type 1} → statement M
 read-rows-spec =
@@ -243,28 +158,28 @@ read-rows-spec =
     (tie.spec
     Inv-loop
     μ-loop
-    row-of-requires
+    (λ c κs. search needs)
     loop-holds
-    read-head-requires
-    enum-known-v
-    no-rows-requires
+    (λ c κs. c .before .loop .inv .room)
+    (λ c. search needs)
+    (λ c κs. search needs)
     returns
-    enum-known-row
-    add-end
-    cast-a
-    cast-e
-    mul-times
-    sub-read-times
-    part-times-start
+    (λ c. search needs)
+    (λ c. omega (arith, good-row (got-row (c .before .before)) .room))
+    (λ c. omega (arith, good-row (got-row (c .before .before)) .room))
+    (λ c. omega (arith, good-row (got-row (c .before .before)) .room))
+    (λ c. omega (arith, good-row (got-row (c .before .before)) .room))
+    (λ c. omega (arith, good-row (got-row (c .before .before)) .room))
+    (λ c. omega (arith, good-row (got-row (c .before .before)) .room))
     part-times-end
-    read-times-requires
-    enum-known-v-2
-    no-rows-requires-2
+    (λ c κs. let g = got-row (c .before .before .before) in rw (slot g) (good-row g .parts .most))
+    (λ c. search needs)
+    (λ c κs. search needs)
     returns-2
-    enum-known-q
-    mul-rows
-    array-set-from-rows
-    add-i
-    loop-less
+    (λ c. search needs)
+    (λ c. omega (arith, got-row (c .before .before .before .before .before .before .before .before) .few))
+    (λ c. omega (arith, got-row (c .before .before .before .before .before .before .before .before) .few))
+    (λ c. omega arith)
+    (λ c. omega arith)
     loop-again
-    returns-3)
+    (λ c. ends (c .before .loop .inv) (c .loop-test .left)))

@@ -17,38 +17,19 @@ same-range : (n : ℕ) (s : List ℕ) (at : ℕ) (out : List ℕ) (r : Next) (ou
     → ReadInto (replicate n time) s at out r out′
 same-range n s at out r out′ h f = rw (wanted-same 1 16777215 n 64 h) at f
 
-array-share-prefix-low : tie.Need-array-share-prefix-low
-array-share-prefix-low c = search needs
-
-slice-aggregate-read-fields : tie.Need-slice-aggregate-read-fields
-slice-aggregate-read-fields c = sym (length-same 1 _ 64 (c .before .before .before .pre))
-
-array-share-prefix-high : tie.Need-array-share-prefix-high
-array-share-prefix-high c = search needs
-
-slice-aggregate-read-fields-2 : tie.Need-slice-aggregate-read-fields-2
-slice-aggregate-read-fields-2 c = sym (length-same 16777215 _ 64 (c .before .before .before .before .pre))
-
-read-fields-requires : tie.Need-read-fields-requires
-read-fields-requires c κs = ranges-same 1 16777215 _ 64 (c .before .before .before .before .before .pre)
-
-same-length : tie.Need-same-length
-same-length c = search needs
-
 returns : tie.Need-returns
 returns c =
-    let c2 = c .before .before in
-    let c8 = c2 .before .before .before .before .before .before in
-    same-range _ _ _ _ _ _ (c8 .pre) (c2 .read-fields .ensures)
+    let c8 = c .before .before .before .before .before .before .before .before in
+    same-range _ _ _ _ _ _ (c8 .pre) (c .before .before .read-fields .ensures)
 
 pub read-times-spec : {M : Type 1} → statement M
 read-times-spec =
     tie.close
     (tie.spec
-    array-share-prefix-low
-    slice-aggregate-read-fields
-    array-share-prefix-high
-    slice-aggregate-read-fields-2
-    read-fields-requires
-    same-length
+    (λ c. search needs)
+    (λ c. sym (length-same 1 _ 64 (c .before .before .before .pre)))
+    (λ c. search needs)
+    (λ c. sym (length-same 16777215 _ 64 (c .before .before .before .before .pre)))
+    (λ c κs. ranges-same 1 16777215 _ 64 (c .before .before .before .before .before .pre))
+    (λ c. search needs)
     returns)

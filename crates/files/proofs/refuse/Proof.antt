@@ -6,11 +6,9 @@ use Rattle.files.specs.declared.Loaded.{Loaded}
 use Rattle.files.proofs.refuse.Statement.{statement}
 use Rattle.files.proofs.refuse.Tie as tie
 
-zeros-requires : tie.Need-zeros-requires
-zeros-requires c κs = search needs
-
-returns : tie.Need-returns
-returns c = ap {B = Loaded} (λ (t : Table). record { verdict = c .before .args .v; table = t }) (c .zeros .ensures)
-
 pub refuse-spec : {M : Type 1} → statement M
-refuse-spec = tie.close (tie.spec zeros-requires returns)
+refuse-spec =
+    tie.close
+    (tie.spec
+    (λ c κs. search needs)
+    (λ c. ap {B = Loaded} (λ (t : Table). record { verdict = c .before .args .v; table = t }) (c .zeros .ensures)))

@@ -41,32 +41,11 @@ abbrev μ-loop : tie.MeasureT-loop
 loop-holds : tie.Need-loop-holds Inv-loop μ-loop
 loop-holds c = record { upto = search needs; few = search needs; same = unfold each in refl }
 
-mul-size-of : tie.Need-mul-size-of Inv-loop μ-loop
-mul-size-of c = omega arith
-
-shared-slice-read-size-of : tie.Need-shared-slice-read-size-of Inv-loop μ-loop
-shared-slice-read-size-of c = search needs
-
-size-of-requires : tie.Need-size-of-requires Inv-loop μ-loop
-size-of-requires c κs = search needs
-
 add-size : tie.Need-add-size Inv-loop μ-loop
 add-size c =
     let c3 = c .before .before .before in
     let c5 = c3 .before .before in
     omega (arith, c3 .loop .inv .few, c .size-of .ensures, encode-few (getD (c5 .args .numbers .now) (c3 .loop .i) 0), c5 .pre)
-
-add-i : tie.Need-add-i Inv-loop μ-loop
-add-i c = search needs
-
-loop-less : tie.Need-loop-less Inv-loop μ-loop
-loop-less c = search needs
-
-loop-again : tie.Need-loop-again Inv-loop μ-loop
-loop-again c = turn (c .before .before .before .loop .inv) (c .before .before .loop-test .taken) _ (c .size-of .ensures)
-
-returns : tie.Need-returns Inv-loop μ-loop
-returns c = ends (c .before .loop .inv) (c .loop-test .left)
 
 pub size-of-all-spec : {M : Type 1} → statement M
 size-of-all-spec =
@@ -75,11 +54,11 @@ size-of-all-spec =
     Inv-loop
     μ-loop
     loop-holds
-    mul-size-of
-    shared-slice-read-size-of
-    size-of-requires
+    (λ c. omega arith)
+    (λ c. search needs)
+    (λ c κs. search needs)
     add-size
-    add-i
-    loop-less
-    loop-again
-    returns)
+    (λ c. search needs)
+    (λ c. search needs)
+    (λ c. turn (c .before .before .before .loop .inv) (c .before .before .loop-test .taken) _ (c .size-of .ensures))
+    (λ c. ends (c .before .loop .inv) (c .loop-test .left)))

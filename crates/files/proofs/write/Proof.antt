@@ -28,88 +28,46 @@ file-is t room n numbers o = ap encodeAll (rw (o .count, o .front) (take-over (f
 fault-free : (c : tie.Else1) → codeOf (faultOf (c .before .before .before .before .args .table)) ≡ 0
 fault-free c = sym (ap codeOf (c .before .before .fault-of .ensures)) ∙ (sym (c .before .code-of .ensures) ∙ c .if1 .left)
 
-fault-of-requires : tie.Need-fault-of-requires
-fault-of-requires c κs = search needs
-
-code-of-requires : tie.Need-code-of-requires
-code-of-requires c κs = search needs
-
-refused-requires : tie.Need-refused-requires
-refused-requires c κs = search needs
-
 returns : tie.Need-returns
 returns c =
     let c2 = c .before .before in
-    let c3 = c2 .before in
-    rw (c .refused .ensures) (refuses-fault _ _ _ _ _ (c3 .fault-of .ensures) (c2 .code-of .ensures) (c .before .if1 .taken))
-
-slice-aggregate-file-numbers : tie.Need-slice-aggregate-file-numbers
-slice-aggregate-file-numbers c = search needs
-
-file-numbers-requires : tie.Need-file-numbers-requires
-file-numbers-requires c κs = (fault-free (c .before), refl)
-
-array-share-prefix-numbers : tie.Need-array-share-prefix-numbers
-array-share-prefix-numbers c = omega (arith, c .before .file-numbers .ensures .fits)
-
-slice-aggregate-size-of-all : tie.Need-slice-aggregate-size-of-all
-slice-aggregate-size-of-all c = sym (length-take-le _ _ (omega (arith, c .before .before .file-numbers .ensures .fits)))
-
-size-of-all-requires : tie.Need-size-of-all-requires
-size-of-all-requires c κs = rw length-take (omega (arith, c .before .before .file-numbers .ensures .fits))
-
-refused-requires-2 : tie.Need-refused-requires-2
-refused-requires-2 c κs = search needs
+    rw (c .refused .ensures) (refuses-fault _ _ _ _ _ (c2 .before .fault-of .ensures) (c2 .code-of .ensures) (c .before .if1 .taken))
 
 returns-2 : tie.Need-returns-2
 returns-2 c =
-    let c2 = c .before .before in
-    let c5 = c2 .before .before .before in
-    let c7 = c5 .before .before in
-    let size = sym (c2 .size-of-all .ensures ∙ ap length (file-is _ _ _ _ (c5 .file-numbers .ensures))) in
-    rw (c .refused2 .ensures) (refuses-room _ _ _ (fault-free c7) _ size (c .before .if2 .taken))
-
-array-share-prefix-numbers-2 : tie.Need-array-share-prefix-numbers-2
-array-share-prefix-numbers-2 c = omega (arith, c .before .before .before .before .before .file-numbers .ensures .fits)
+    let c5 = c .before .before .before .before .before in
+    let size = sym (c .before .before .size-of-all .ensures ∙ ap length (file-is _ _ _ _ (c5 .file-numbers .ensures))) in
+    rw (c .refused2 .ensures) (refuses-room _ _ _ (fault-free (c5 .before .before)) _ size (c .before .if2 .taken))
 
 slice-aggregate-put-all : tie.Need-slice-aggregate-put-all
 slice-aggregate-put-all c =
     sym (length-take-le _ _ (omega (arith, c .before .before .before .before .before .before .file-numbers .ensures .fits)))
 
-put-all-requires : tie.Need-put-all-requires
-put-all-requires c κs = search needs
-
-same-length : tie.Need-same-length
-same-length c = search needs
-
 returns-3 : tie.Need-returns-3
 returns-3 c =
     let c2 = c .before .before in
-    let c5 = c2 .before .before .before in
-    let c6 = c5 .before in
-    let c9 = c6 .before .before .before in
-    let c11 = c9 .before .before in
+    let c9 = c2 .before .before .before .before .before .before .before in
     let file = file-is _ _ _ _ (c9 .file-numbers .ensures) in
-    let size = sym (c6 .size-of-all .ensures ∙ ap length file) in
-    writes-all _ _ _ (fault-free c11) _ size (c5 .if2 .left) _ (c2 .put-all .ensures ∙ rw file)
+    let size = sym (c2 .before .before .before .before .size-of-all .ensures ∙ ap length file) in
+    writes-all _ _ _ (fault-free (c9 .before .before)) _ size (c2 .before .before .before .if2 .left) _ (c2 .put-all .ensures ∙ rw file)
 
 pub write-spec : {M : Type 1} → statement M
 write-spec =
     tie.close
     (tie.spec
-    fault-of-requires
-    code-of-requires
-    refused-requires
+    (λ c κs. search needs)
+    (λ c κs. search needs)
+    (λ c κs. search needs)
     returns
-    slice-aggregate-file-numbers
-    file-numbers-requires
-    array-share-prefix-numbers
-    slice-aggregate-size-of-all
-    size-of-all-requires
-    refused-requires-2
+    (λ c. search needs)
+    (λ c κs. (fault-free (c .before), refl))
+    (λ c. omega (arith, c .before .file-numbers .ensures .fits))
+    (λ c. sym (length-take-le _ _ (omega (arith, c .before .before .file-numbers .ensures .fits))))
+    (λ c κs. rw length-take (omega (arith, c .before .before .file-numbers .ensures .fits)))
+    (λ c κs. search needs)
     returns-2
-    array-share-prefix-numbers-2
+    (λ c. omega (arith, c .before .before .before .before .before .file-numbers .ensures .fits))
     slice-aggregate-put-all
-    put-all-requires
-    same-length
+    (λ c κs. search needs)
+    (λ c. search needs)
     returns-3)

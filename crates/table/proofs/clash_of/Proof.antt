@@ -5,55 +5,29 @@ use Rattle.table.proofs.Codes.{fault-stays, next-decides}
 use Rattle.table.proofs.clash_of.Statement.{statement}
 use Rattle.table.proofs.clash_of.Tie as tie
 
-rule-broken-requires : tie.Need-rule-broken-requires
-rule-broken-requires c κs = search needs
-
-code-of-requires : tie.Need-code-of-requires
-code-of-requires c κs = search needs
-
-returns : tie.Need-returns
-unfolding clashOf
-returns c = fault-stays (c .before .before .rule-broken .ensures) (c .before .code-of .ensures) _ (c .if1 .taken)
-
-rule-broken-requires-2 : tie.Need-rule-broken-requires-2
-rule-broken-requires-2 c κs = search needs
-
-code-of-requires-2 : tie.Need-code-of-requires-2
-code-of-requires-2 c κs = search needs
-
 returns-2 : tie.Need-returns-2
 unfolding clashOf
 returns-2 c =
     let c2 = c .before .before in
-    let c3 = c2 .before in
-    let c4 = c3 .before in
-    let c5 = c4 .before in
-    next-decides (c5 .rule-broken .ensures) (c4 .code-of .ensures) (c3 .if1 .left)
+    next-decides (c2 .before .before .before .rule-broken .ensures) (c2 .before .before .code-of .ensures) (c2 .before .if1 .left)
     (fault-stays (c2 .rule-broken2 .ensures) (c .before .code-of2 .ensures) _ (c .if2 .taken))
-
-rule-broken-requires-3 : tie.Need-rule-broken-requires-3
-rule-broken-requires-3 c κs = search needs
 
 returns-3 : tie.Need-returns-3
 unfolding clashOf
 returns-3 c =
-    let c2 = c .before .before in
-    let c3 = c2 .before in
-    let c4 = c3 .before in
-    let c5 = c4 .before in
-    let c6 = c5 .before in
-    next-decides (c6 .rule-broken .ensures) (c5 .code-of .ensures) (c4 .if1 .left)
-    (next-decides (c3 .rule-broken2 .ensures) (c2 .code-of2 .ensures) (c .before .if2 .left) (c .rule-broken3 .ensures))
+    let c3 = c .before .before .before in
+    next-decides (c3 .before .before .before .rule-broken .ensures) (c3 .before .before .code-of .ensures) (c3 .before .if1 .left)
+    (next-decides (c3 .rule-broken2 .ensures) (c .before .before .code-of2 .ensures) (c .before .if2 .left) (c .rule-broken3 .ensures))
 
 pub clash-of-spec : {M : Type 1} → statement M
 clash-of-spec =
     tie.close
     (tie.spec
-    rule-broken-requires
-    code-of-requires
-    returns
-    rule-broken-requires-2
-    code-of-requires-2
+    (λ c κs. search needs)
+    (λ c κs. search needs)
+    (λ c. unfold clashOf in fault-stays (c .before .before .rule-broken .ensures) (c .before .code-of .ensures) _ (c .if1 .taken))
+    (λ c κs. search needs)
+    (λ c κs. search needs)
     returns-2
-    rule-broken-requires-3
+    (λ c κs. search needs)
     returns-3)

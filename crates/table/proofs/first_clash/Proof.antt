@@ -1,5 +1,5 @@
 -- `table::first_clash` meets its contract. Its invariants are those of `Clashes`, at the rule asked for. Assumes nothing.
-use Prim.Native.Nat.{ℕ, _+_, _-_, _≤_, _<_}
+use Prim.Native.Nat.{ℕ, _+_, _-_, min, _≤_, _<_}
 use native.Mathlib.Omega.{arith}
 use borrow.Author.Needs.{needs}
 use mathlib.Core.Path.{_≡_, refl, sym, _∙_}
@@ -16,51 +16,52 @@ use Rattle.table.proofs.first_clash.Tie as tie
 
 -- no row before row i clashes with an earlier one
 record Looking (rule : Rule) (t : Table) (n i : ℕ) : Type 0 where
-  few : n ≤ 64
-  used : n ≤ t .count
+  number : n ≡ min (t .count) 64
   all : length (usedRows t) ≡ n
   upto : i ≤ n
   same : Outer (breaks rule) (usedRows t) i
 
 -- and row i with none of the j first
-record Comparing (rule : Rule) (t : Table) (i j : ℕ) : Type 0 where
+record Comparing (rule : Rule) (t : Table) (n i j : ℕ) : Type 0 where
+  rows : Looking rule t n i
+  inside : i < n
   upto : j ≤ i
   same : Inner (breaks rule) (usedRows t) (getD (usedRows t) i zeroRow) i j
 
-module _ (rule : Rule) (t : Table) (n i : ℕ) (l : Looking rule t n i) where
-  module _ (inside : i < n) (j : ℕ) (k : Comparing rule t i j) where
-    -- the test at two used rows, as the table has them
-    tested : j < i → (b : Bool) → breaks rule (getD (t .rows) i zeroRow) (getD (t .rows) j zeroRow) ≡ b
-        → breaks rule (getD (usedRows t) i zeroRow) (getD (usedRows t) j zeroRow) ≡ b
-    tested h b e =
-        rw (used-row (t .count) (t .rows) i (omega (arith, l .used)), used-row (t .count) (t .rows) j (omega (arith, l .used))) e
+module _ {rule : Rule} {t : Table} {n i j : ℕ} (k : Comparing rule t n i j) where
+  -- row i is one of the used rows
+  used : i < length (usedRows t)
+  used = omega (arith, k .rows .all, k .inside)
 
-    -- the next earlier row does not clash
-    next-earlier : j < i → breaks rule (getD (t .rows) i zeroRow) (getD (t .rows) j zeroRow) ≡ false → Comparing rule t i (j + 1)
-    next-earlier h e =
-        let used : i < length (usedRows t) = omega (arith, l .all) in
-        record { upto = omega arith; same = inner-next (breaks rule) (usedRows t) zeroRow i j used h (tested h false e) (k .same) }
+  -- the test at two used rows, as the table has them
+  tested : j < i → (b : Bool) → breaks rule (getD (t .rows) i zeroRow) (getD (t .rows) j zeroRow) ≡ b
+      → breaks rule (getD (usedRows t) i zeroRow) (getD (usedRows t) j zeroRow) ≡ b
+  tested h b e =
+      let counted : i < t .count = omega (arith, k .rows .number, k .inside) in
+      rw (used-row (t .count) (t .rows) i counted, used-row (t .count) (t .rows) j (omega arith)) e
 
-    -- an earlier row clashes
-    here : j < i → breaks rule (getD (t .rows) i zeroRow) (getD (t .rows) j zeroRow) ≡ true → i ≡ clash (breaks rule) (usedRows t)
-    here h e = found (breaks rule) (usedRows t) zeroRow i j (omega (arith, l .all)) h (tested h true e) (k .same) (l .same)
+  -- the next earlier row does not clash
+  next-earlier : j < i → breaks rule (getD (t .rows) i zeroRow) (getD (t .rows) j zeroRow) ≡ false → Comparing rule t n i (j + 1)
+  next-earlier h e =
+      let same = inner-next (breaks rule) (usedRows t) zeroRow i j used h (tested h false e) (k .same) in
+      record { rows = k .rows; inside = k .inside; upto = omega arith; same = same }
 
-    -- none of the earlier rows clashes
-    next-row : i ≤ j → Looking rule t n (i + 1)
-    next-row h = record {
-      few = l .few;
-      used = l .used;
-      all = l .all;
-      upto = omega arith;
-      same = outer-next (breaks rule) (usedRows t) zeroRow i j (omega (arith, l .all)) h (k .same) (l .same);
-    }
+  -- an earlier row clashes
+  here : j < i → breaks rule (getD (t .rows) i zeroRow) (getD (t .rows) j zeroRow) ≡ true → i ≡ clash (breaks rule) (usedRows t)
+  here h e = found (breaks rule) (usedRows t) zeroRow i j used h (tested h true e) (k .same) (k .rows .same)
 
-  -- no row clashes
-  nowhere : n ≤ i → i ≡ clash (breaks rule) (usedRows t)
-  nowhere h = outer-past (breaks rule) (usedRows t) zeroRow i (omega (arith, l .all)) (l .same)
+  -- none of the earlier rows clashes
+  next-row : i ≤ j → Looking rule t n (i + 1)
+  next-row h =
+      let same = outer-next (breaks rule) (usedRows t) zeroRow i j used h (k .same) (k .rows .same) in
+      record { number = k .rows .number; all = k .rows .all; upto = omega (arith, k .inside); same = same }
+
+-- no row clashes
+nowhere : {rule : Rule} {t : Table} {n i : ℕ} → Looking rule t n i → n ≤ i → i ≡ clash (breaks rule) (usedRows t)
+nowhere {rule} {t} {n} {i} l h = outer-past (breaks rule) (usedRows t) zeroRow i (omega (arith, l .all)) (l .same)
 
 abbrev Inv-loop : tie.InvT-loop
-Inv-loop rule t n i row j₀ j = Comparing rule t i j
+Inv-loop rule t n i row j₀ j = Comparing rule t n i j
 
 abbrev μ-loop : tie.MeasureT-loop
 μ-loop rule t n i row j₀ j = i - j
@@ -71,77 +72,29 @@ Inv-rows rule t n i₀ i = Looking rule t n i
 abbrev μ-rows : tie.MeasureT-rows
 μ-rows rule t n i₀ i = n - i
 
-rows-used-requires : tie.Need-rows-used-requires Inv-loop μ-loop Inv-rows μ-rows
-rows-used-requires c κs = search needs
-
 rows-holds : tie.Need-rows-holds Inv-loop μ-loop Inv-rows μ-rows
 rows-holds c =
     let t = c .before .args .t1 in
     let long : length (t .rows) ≡ 64 = search (needs, length-mapped) in
     record {
-      few = omega (arith, c .rows-used .ensures);
-      used = omega (arith, c .rows-used .ensures);
+      number = c .rows-used .ensures;
       all = used-length (t .count) (t .rows) long ∙ sym (c .rows-used .ensures);
       upto = search needs;
       same = outer-start (breaks (c .before .args .rule)) (usedRows t) zeroRow 0;
     }
 
-mul-row : tie.Need-mul-row Inv-loop μ-loop Inv-rows μ-rows
-mul-row c = omega arith
-
-element-copy-out-row : tie.Need-element-copy-out-row Inv-loop μ-loop Inv-rows μ-rows
-element-copy-out-row c = omega arith
-
 loop-holds : tie.Need-loop-holds Inv-loop μ-loop Inv-rows μ-rows
-loop-holds c = record { upto = search needs; same = refl }
-
-mul-earlier : tie.Need-mul-earlier Inv-loop μ-loop Inv-rows μ-rows
-mul-earlier c = omega arith
-
-element-copy-out-earlier : tie.Need-element-copy-out-earlier Inv-loop μ-loop Inv-rows μ-rows
-element-copy-out-earlier c = omega arith
-
-breaks-rule-requires : tie.Need-breaks-rule-requires Inv-loop μ-loop Inv-rows μ-rows
-breaks-rule-requires c κs = search needs
-
-add-j : tie.Need-add-j Inv-loop μ-loop Inv-rows μ-rows
-add-j c = omega arith
-
-loop-less : tie.Need-loop-less Inv-loop μ-loop Inv-rows μ-rows
-loop-less c = omega arith
+loop-holds c = record { rows = c .before .before .rows .inv; inside = c .before .rows-test .taken; upto = search needs; same = refl }
 
 loop-again : tie.Need-loop-again Inv-loop μ-loop Inv-rows μ-rows
 loop-again c =
     let c3 = c .before .before .before in
-    let c4 = c3 .before in
-    let inner = c4 in
-    let rows = inner .before .before .before in
-    next-earlier _ _ _ _ (rows .rows .inv) (inner .before .before .rows-test .taken) _ (inner .loop .inv) (c3 .loop-test .taken)
-    (sym (c .before .breaks-rule .ensures) ∙ c .if1 .left)
-
-add-i : tie.Need-add-i Inv-loop μ-loop Inv-rows μ-rows
-add-i c = omega arith
-
-rows-less : tie.Need-rows-less Inv-loop μ-loop Inv-rows μ-rows
-rows-less c = omega arith
-
-rows-again : tie.Need-rows-again Inv-loop μ-loop Inv-rows μ-rows
-rows-again c =
-    let inner = c .before in
-    let rows = inner .before .before .before in
-    next-row _ _ _ _ (rows .rows .inv) (inner .before .before .rows-test .taken) _ (inner .loop .inv) (c .loop-test .left)
-
-returns : tie.Need-returns Inv-loop μ-loop Inv-rows μ-rows
-returns c = nowhere _ _ _ _ (c .before .rows .inv) (c .rows-test .left)
+    next-earlier (c3 .before .loop .inv) (c3 .loop-test .taken) (sym (c .before .breaks-rule .ensures) ∙ c .if1 .left)
 
 returns-2 : tie.Need-returns-2 Inv-loop μ-loop Inv-rows μ-rows
 returns-2 c =
     let c3 = c .before .before .before in
-    let c4 = c3 .before in
-    let inner = c4 in
-    let rows = inner .before .before .before in
-    here _ _ _ _ (rows .rows .inv) (inner .before .before .rows-test .taken) _ (inner .loop .inv) (c3 .loop-test .taken)
-    (sym (c .before .breaks-rule .ensures) ∙ c .if1 .taken)
+    here (c3 .before .loop .inv) (c3 .loop-test .taken) (sym (c .before .breaks-rule .ensures) ∙ c .if1 .taken)
 
 pub first-clash-spec : {M : Type 1} → statement M
 first-clash-spec =
@@ -151,19 +104,19 @@ first-clash-spec =
     μ-loop
     Inv-rows
     μ-rows
-    rows-used-requires
+    (λ c κs. search needs)
     rows-holds
-    mul-row
-    element-copy-out-row
+    (λ c. omega arith)
+    (λ c. omega arith)
     loop-holds
-    mul-earlier
-    element-copy-out-earlier
-    breaks-rule-requires
-    add-j
-    loop-less
+    (λ c. omega arith)
+    (λ c. omega arith)
+    (λ c κs. search needs)
+    (λ c. omega arith)
+    (λ c. omega arith)
     loop-again
-    add-i
-    rows-less
-    rows-again
-    returns
+    (λ c. omega arith)
+    (λ c. omega arith)
+    (λ c. next-row (c .before .loop .inv) (c .loop-test .left))
+    (λ c. nowhere (c .before .rows .inv) (c .rows-test .left))
     returns-2)

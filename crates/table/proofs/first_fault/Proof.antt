@@ -49,50 +49,17 @@ abbrev μ-loop : tie.MeasureT-loop
 loop-holds : tie.Need-loop-holds Inv-loop μ-loop
 loop-holds c = record { ranges = c .before .before .before .pre; upto = search needs; same = refl }
 
-mul-most : tie.Need-mul-most Inv-loop μ-loop
-mul-most c = search needs
-
-shared-slice-read-most : tie.Need-shared-slice-read-most Inv-loop μ-loop
-shared-slice-read-most c = omega (arith, c .before .before .loop .inv .ranges .highs)
-
-mul-number-fault : tie.Need-mul-number-fault Inv-loop μ-loop
-mul-number-fault c = search needs
-
-shared-slice-read-number-fault : tie.Need-shared-slice-read-number-fault Inv-loop μ-loop
-shared-slice-read-number-fault c = search needs
-
-mul-number-fault-2 : tie.Need-mul-number-fault-2 Inv-loop μ-loop
-mul-number-fault-2 c = search needs
-
-shared-slice-read-number-fault-2 : tie.Need-shared-slice-read-number-fault-2 Inv-loop μ-loop
-shared-slice-read-number-fault-2 c = omega (arith, c .before .before .before .before .loop .inv .ranges .lows)
-
-number-fault-requires : tie.Need-number-fault-requires Inv-loop μ-loop
-number-fault-requires c κs = search needs
-
-code-of-requires : tie.Need-code-of-requires Inv-loop μ-loop
-code-of-requires c κs = search needs
-
 returns : tie.Need-returns Inv-loop μ-loop
 returns c =
     let c2 = c .before .before in
     let c6 = c2 .before .before .before .before in
     stops (c6 .before .loop .inv) (c6 .loop-test .taken) _ _ (c2 .number-fault .ensures) (c .before .code-of .ensures) (c .if1 .taken)
 
-add-i : tie.Need-add-i Inv-loop μ-loop
-add-i c = search needs
-
-loop-less : tie.Need-loop-less Inv-loop μ-loop
-loop-less c = search needs
-
 loop-again : tie.Need-loop-again Inv-loop μ-loop
 loop-again c =
     let c2 = c .before .before in
     let c6 = c2 .before .before .before .before in
     turn (c6 .before .loop .inv) (c6 .loop-test .taken) _ _ (c2 .number-fault .ensures) (c .before .code-of .ensures) (c .if1 .left)
-
-returns-2 : tie.Need-returns-2 Inv-loop μ-loop
-returns-2 c = ends (c .before .loop .inv) (c .loop-test .left)
 
 pub first-fault-spec : {M : Type 1} → statement M
 first-fault-spec =
@@ -101,16 +68,16 @@ first-fault-spec =
     Inv-loop
     μ-loop
     loop-holds
-    mul-most
-    shared-slice-read-most
-    mul-number-fault
-    shared-slice-read-number-fault
-    mul-number-fault-2
-    shared-slice-read-number-fault-2
-    number-fault-requires
-    code-of-requires
+    (λ c. search needs)
+    (λ c. omega (arith, c .before .before .loop .inv .ranges .highs))
+    (λ c. search needs)
+    (λ c. search needs)
+    (λ c. search needs)
+    (λ c. omega (arith, c .before .before .before .before .loop .inv .ranges .lows))
+    (λ c κs. search needs)
+    (λ c κs. search needs)
     returns
-    add-i
-    loop-less
+    (λ c. search needs)
+    (λ c. search needs)
     loop-again
-    returns-2)
+    (λ c. ends (c .before .loop .inv) (c .loop-test .left)))

@@ -28,64 +28,38 @@ plain : (i : ℕ) (row : Row) (fields : List ℕ) (v : Verdict) → fields ≡ f
     → v ≡ faultIn (wanted lows highs) i (take 6 (fieldsOf row))
 plain i row fields v own said = said ∙ ap (λ (ns : List ℕ). faultIn (wanted lows highs) i (take 6 ns)) own
 
-fields-of-requires : tie.Need-fields-of-requires
-fields-of-requires c κs = search needs
-
-array-share-prefix-fields : tie.Need-array-share-prefix-fields
-array-share-prefix-fields c = search needs
-
-slice-aggregate-first-fault : tie.Need-slice-aggregate-first-fault
-slice-aggregate-first-fault c = search needs
-
-slice-aggregate-first-fault-2 : tie.Need-slice-aggregate-first-fault-2
-slice-aggregate-first-fault-2 c = search needs
-
-slice-aggregate-first-fault-3 : tie.Need-slice-aggregate-first-fault-3
-slice-aggregate-first-fault-3 c = search needs
-
 first-fault-requires : tie.Need-first-fault-requires
 first-fault-requires c κs =
     let six : length (take 6 (c .before .before .before .fields-of .result)) ≡ 6
     = ap (λ (fields : List ℕ). length (take 6 fields)) (c .before .before .before .fields-of .ensures) in
     record { lows = sym six; highs = sym six }
 
-code-of-requires : tie.Need-code-of-requires
-code-of-requires c κs = search needs
-
 returns : tie.Need-returns
 unfolding lows highs
 returns c =
-    let c2 = c .before .before in
-    let c6 = c2 .before .before .before .before in
-    let said = plain (c6 .before .args .i) _ _ _ (c6 .fields-of .ensures) (c2 .first-fault .ensures) in
+    let c6 = c .before .before .before .before .before .before in
+    let said = plain (c6 .before .args .i) _ _ _ (c6 .fields-of .ensures) (c .before .before .first-fault .ensures) in
     fault-stays said (c .before .code-of .ensures) _ (c .if1 .taken) ∙ sym (in-two _ _ _)
-
-sub-number-fault : tie.Need-sub-number-fault
-sub-number-fault c = search needs
-
-number-fault-requires : tie.Need-number-fault-requires
-number-fault-requires c κs = search needs
 
 returns-2 : tie.Need-returns-2
 unfolding lows highs
 returns-2 c =
-    let c3 = c .before .before .before in
-    let c7 = c3 .before .before .before .before in
-    let said = plain (c7 .before .args .i) _ _ _ (c7 .fields-of .ensures) (c3 .first-fault .ensures) in
+    let c7 = c .before .before .before .before .before .before .before in
+    let said = plain (c7 .before .args .i) _ _ _ (c7 .fields-of .ensures) (c .before .before .before .first-fault .ensures) in
     next-decides said (c .before .before .code-of .ensures) (c .before .if1 .left) (c .number-fault .ensures) ∙ sym (in-two _ _ _)
 
 pub head-fault-spec : {M : Type 1} → statement M
 head-fault-spec =
     tie.close
     (tie.spec
-    fields-of-requires
-    array-share-prefix-fields
-    slice-aggregate-first-fault
-    slice-aggregate-first-fault-2
-    slice-aggregate-first-fault-3
+    (λ c κs. search needs)
+    (λ c. search needs)
+    (λ c. search needs)
+    (λ c. search needs)
+    (λ c. search needs)
     first-fault-requires
-    code-of-requires
+    (λ c κs. search needs)
     returns
-    sub-number-fault
-    number-fault-requires
+    (λ c. search needs)
+    (λ c κs. search needs)
     returns-2)

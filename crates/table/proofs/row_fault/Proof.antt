@@ -16,68 +16,31 @@ use Rattle.table.proofs.row_fault.Tie as tie
 -- its fields are in their ranges
 good-fields : (c : tie.Else1) → GoodHead (c .before .before .before .before .args .used) (c .before .before .before .before .args .row)
 good-fields c =
-    let c2 = c .before .before in
-    head-found _ _ _ (sym (ap codeOf (c2 .head-fault .ensures)) ∙ (sym (c .before .code-of .ensures) ∙ c .if1 .left))
+    head-found _ _ _ (sym (ap codeOf (c .before .before .head-fault .ensures)) ∙ (sym (c .before .code-of .ensures) ∙ c .if1 .left))
 
 -- its times lie within the table's
 room-of : (c : tie.Else1) → let a = c .before .before .before .before .args in a .used + a .row .parts ≤ length (now (a .times))
-room-of c =
-    let c4 = c .before .before .before .before in
-    omega (arith, good-fields c .room, c4 .pre .1)
-
-head-fault-requires : tie.Need-head-fault-requires
-head-fault-requires c κs = search needs
-
-code-of-requires : tie.Need-code-of-requires
-code-of-requires c κs = search needs
-
-returns : tie.Need-returns
-unfolding rowFault
-returns c = fault-stays (c .before .before .head-fault .ensures) (c .before .code-of .ensures) _ (c .if1 .taken)
-
-cast-e : tie.Need-cast-e
-cast-e c = search needs
-
-add-e : tie.Need-add-e
-add-e c = search needs
-
-mul-times-fault : tie.Need-mul-times-fault
-mul-times-fault c = search needs
-
-sub-times-fault : tie.Need-sub-times-fault
-sub-times-fault c = search needs
-
-part-times-fault-start : tie.Need-part-times-fault-start
-part-times-fault-start c = search needs
-
-part-times-fault-end : tie.Need-part-times-fault-end
-part-times-fault-end c = omega (arith, room-of (c .before))
-
-times-fault-requires : tie.Need-times-fault-requires
-times-fault-requires c κs =
-    rw (part-length _ _ _ (room-of (c .before .before))) (good-fields (c .before .before) .parts .most)
+room-of c = omega (arith, good-fields c .room, c .before .before .before .before .pre .1)
 
 returns-2 : tie.Need-returns-2
 unfolding rowFault
 returns-2 c =
     let c3 = c .before .before .before in
-    let c4 = c3 .before in
-    let c5 = c4 .before in
-    next-decides (c5 .head-fault .ensures) (c4 .code-of .ensures) (c3 .if1 .left)
-    (c .times-fault .ensures ∙ rw (part-length _ _ _ (room-of (c3)), part-is))
+    next-decides (c3 .before .before .head-fault .ensures) (c3 .before .code-of .ensures) (c3 .if1 .left)
+    (c .times-fault .ensures ∙ rw (part-length _ _ _ (room-of c3), part-is))
 
 pub row-fault-spec : {M : Type 1} → statement M
 row-fault-spec =
     tie.close
     (tie.spec
-    head-fault-requires
-    code-of-requires
-    returns
-    cast-e
-    add-e
-    mul-times-fault
-    sub-times-fault
-    part-times-fault-start
-    part-times-fault-end
-    times-fault-requires
+    (λ c κs. search needs)
+    (λ c κs. search needs)
+    (λ c. unfold rowFault in fault-stays (c .before .before .head-fault .ensures) (c .before .code-of .ensures) _ (c .if1 .taken))
+    (λ c. search needs)
+    (λ c. search needs)
+    (λ c. search needs)
+    (λ c. search needs)
+    (λ c. search needs)
+    (λ c. omega (arith, room-of (c .before)))
+    (λ c κs. rw (part-length _ _ _ (room-of (c .before .before))) (good-fields (c .before .before) .parts .most))
     returns-2)

@@ -70,27 +70,11 @@ loop-holds c =
     let long : length (c .before .args .t1 .rows) ≡ 64 = search (needs, length-mapped) in
     record { few = omega (arith, c .before .pre); upto = search needs; room = search needs; same = refl }
 
-mul-row : tie.Need-mul-row Inv-loop μ-loop
-mul-row c = omega arith
-
-element-copy-out-row : tie.Need-element-copy-out-row Inv-loop μ-loop
-element-copy-out-row c = omega (arith, c .before .before .before .pre)
-
-slice-aggregate-row-fault : tie.Need-slice-aggregate-row-fault Inv-loop μ-loop
-slice-aggregate-row-fault c = search needs
-
-row-fault-requires : tie.Need-row-fault-requires Inv-loop μ-loop
-row-fault-requires c κs = (c .before .before .before .loop .inv .room, search needs)
-
-code-of-requires : tie.Need-code-of-requires Inv-loop μ-loop
-code-of-requires c κs = search needs
-
 returns : tie.Need-returns Inv-loop μ-loop
 returns c =
     let c2 = c .before .before in
     let c5 = c2 .before .before .before in
-    let c6 = c5 .before in
-    stops (c6 .loop .inv) (c5 .loop-test .taken) _ _ (c2 .row-fault .ensures) (c .before .code-of .ensures) (c .if1 .taken)
+    stops (c5 .before .loop .inv) (c5 .loop-test .taken) _ _ (c2 .row-fault .ensures) (c .before .code-of .ensures) (c .if1 .taken)
 
 add-used : tie.Need-add-used Inv-loop μ-loop
 add-used c =
@@ -100,22 +84,11 @@ add-used c =
     let c7 = c6 .before in
     omega (arith, fits (c7 .loop .inv) (c6 .loop-test .taken) _ _ (c3 .row-fault .ensures) (c2 .code-of .ensures) (c .before .if1 .left))
 
-add-i : tie.Need-add-i Inv-loop μ-loop
-add-i c = omega arith
-
-loop-less : tie.Need-loop-less Inv-loop μ-loop
-loop-less c = omega arith
-
 loop-again : tie.Need-loop-again Inv-loop μ-loop
 loop-again c =
     let c2 = c .before .before in
-    let c3 = c2 .before in
-    let c6 = c3 .before .before .before in
-    let c7 = c6 .before in
-    turn (c7 .loop .inv) (c6 .loop-test .taken) _ _ (c3 .row-fault .ensures) (c2 .code-of .ensures) (c .before .if1 .left)
-
-returns-2 : tie.Need-returns-2 Inv-loop μ-loop
-returns-2 c = ends (c .before .loop .inv) (c .loop-test .left)
+    let c6 = c2 .before .before .before .before in
+    turn (c6 .before .loop .inv) (c6 .loop-test .taken) _ _ (c2 .before .row-fault .ensures) (c2 .code-of .ensures) (c .before .if1 .left)
 
 pub rows-fault-spec : {M : Type 1} → statement M
 rows-fault-spec =
@@ -124,14 +97,14 @@ rows-fault-spec =
     Inv-loop
     μ-loop
     loop-holds
-    mul-row
-    element-copy-out-row
-    slice-aggregate-row-fault
-    row-fault-requires
-    code-of-requires
+    (λ c. omega arith)
+    (λ c. omega (arith, c .before .before .before .pre))
+    (λ c. search needs)
+    (λ c κs. (c .before .before .before .loop .inv .room, search needs))
+    (λ c κs. search needs)
     returns
     add-used
-    add-i
-    loop-less
+    (λ c. omega arith)
+    (λ c. omega arith)
     loop-again
-    returns-2)
+    (λ c. ends (c .before .loop .inv) (c .loop-test .left)))

@@ -26,15 +26,6 @@ module _ (rule : Rule) (rows : List Row) {row n : ℕ} (first : row ≡ clash (b
   unfolding broken
   none h = rw (← first, le-ltb row (length rows) (omega arith))
 
-first-clash-requires : tie.Need-first-clash-requires
-first-clash-requires c κs = search needs
-
-rows-used-requires : tie.Need-rows-used-requires
-rows-used-requires c κs = search needs
-
-verdict-on-requires : tie.Need-verdict-on-requires
-verdict-on-requires c κs = search needs
-
 -- as many rows as were counted
 all-of : (c : tie.After-rows-used) → length (usedRows (c .before .before .args .t)) ≡ c .rows-used .result
 all-of c =
@@ -45,12 +36,14 @@ all-of c =
 returns : tie.Need-returns
 returns c =
     let c2 = c .before .before in
-    let c3 = c2 .before in
-    c .verdict-on .ensures ∙ hit _ _ (c3 .first-clash .ensures) (all-of (c2)) (c .before .if1 .taken)
-
-returns-2 : tie.Need-returns-2
-returns-2 c = none _ _ (c .before .before .first-clash .ensures) (all-of (c .before)) (c .if1 .left)
+    c .verdict-on .ensures ∙ hit _ _ (c2 .before .first-clash .ensures) (all-of c2) (c .before .if1 .taken)
 
 pub rule-broken-spec : {M : Type 1} → statement M
 rule-broken-spec =
-    tie.close (tie.spec first-clash-requires rows-used-requires verdict-on-requires returns returns-2)
+    tie.close
+    (tie.spec
+    (λ c κs. search needs)
+    (λ c κs. search needs)
+    (λ c κs. search needs)
+    returns
+    (λ c. none _ _ (c .before .before .first-clash .ensures) (all-of (c .before)) (c .if1 .left)))

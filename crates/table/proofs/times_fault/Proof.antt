@@ -8,21 +8,6 @@ use Rattle.table.proofs.FieldRanges.{length-same, ranges-same, wanted-s
 use Rattle.table.proofs.times_fault.Statement.{statement}
 use Rattle.table.proofs.times_fault.Tie as tie
 
-array-share-prefix-low : tie.Need-array-share-prefix-low
-array-share-prefix-low c = search needs
-
-slice-aggregate-first-fault : tie.Need-slice-aggregate-first-fault
-slice-aggregate-first-fault c = sym (length-same 1 _ 64 (c .before .before .pre))
-
-array-share-prefix-high : tie.Need-array-share-prefix-high
-array-share-prefix-high c = search needs
-
-slice-aggregate-first-fault-2 : tie.Need-slice-aggregate-first-fault-2
-slice-aggregate-first-fault-2 c = sym (length-same 16777215 _ 64 (c .before .before .before .pre))
-
-first-fault-requires : tie.Need-first-fault-requires
-first-fault-requires c κs = ranges-same 1 16777215 _ 64 (c .before .before .before .pre)
-
 returns : tie.Need-returns
 returns c =
     let c4 = c .before .before .before .before in
@@ -33,9 +18,9 @@ pub times-fault-spec : {M : Type 1} → statement M
 times-fault-spec =
     tie.close
     (tie.spec
-    array-share-prefix-low
-    slice-aggregate-first-fault
-    array-share-prefix-high
-    slice-aggregate-first-fault-2
-    first-fault-requires
+    (λ c. search needs)
+    (λ c. sym (length-same 1 _ 64 (c .before .before .pre)))
+    (λ c. search needs)
+    (λ c. sym (length-same 16777215 _ 64 (c .before .before .before .pre)))
+    (λ c κs. ranges-same 1 16777215 _ 64 (c .before .before .before .pre))
     returns)

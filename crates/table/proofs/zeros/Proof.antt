@@ -4,12 +4,5 @@ use borrow.Author.Needs.{needs}
 use Rattle.table.proofs.zeros.Statement.{statement}
 use Rattle.table.proofs.zeros.Tie as tie
 
-row-of-requires : tie.Need-row-of-requires
-row-of-requires c κs = search needs
-
-returns : tie.Need-returns
-unfolding each
-returns c = rw (c .row-of .ensures)
-
 pub zeros-spec : {M : Type 1} → statement M
-zeros-spec = tie.close (tie.spec row-of-requires returns)
+zeros-spec = tie.close (tie.spec (λ c κs. search needs) (λ c. unfold each in rw (c .row-of .ensures)))
