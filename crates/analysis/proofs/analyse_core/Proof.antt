@@ -71,25 +71,10 @@ module _ {c : Core} (k : IsCore c) where
         enough = omega (arith, parts-needed);
       }
 
-refused-requires : tie.Need-refused-requires
-refused-requires c κs = search needs
-
 returns : tie.Need-returns
 returns c =
     let k = c .before .before .before .pre in
     gives-none _ _ _ _ (short k _ (c .before .if1 .taken)) (room-writes _) (c .refused .ensures)
-
-slice-aggregate-windows : tie.Need-slice-aggregate-windows
-slice-aggregate-windows c = search needs
-
-windows-requires : tie.Need-windows-requires
-windows-requires c κs = search needs
-
-cast-t12 : tie.Need-cast-t12
-cast-t12 c = search needs
-
-refused-requires-2 : tie.Need-refused-requires-2
-refused-requires-2 c κs = search needs
 
 returns-2 : tie.Need-returns-2
 returns-2 c =
@@ -100,21 +85,12 @@ returns-2 c =
     (enough k _ (some .if1 .left) ∙ no-window _ (k .good .good) _ (call .windows .ensures .names) (c .before .if2 .taken))
     (window-writes _) (c .refused2 .ensures)
 
-slice-aggregate-core-bounds : tie.Need-slice-aggregate-core-bounds
-slice-aggregate-core-bounds c = search needs
-
 core-bounds-requires : tie.Need-core-bounds-requires
 core-bounds-requires c κs =
     let none = c .before .before in
     let call = none .before .before in
     let some = call .before .before in
     to-bound (some .before .before .pre) _ _ _ _ (call .windows .ensures) (none .if2 .left) (some .if1 .left)
-
-cast-t18 : tie.Need-cast-t18
-cast-t18 c = search needs
-
-same-length : tie.Need-same-length
-same-length c = search needs
 
 returns-3 : tie.Need-returns-3
 returns-3 c =
@@ -127,9 +103,6 @@ returns-3 c =
     gives-all _ _ _ _
     (enough k _ (some .if1 .left) ∙ missed _ (k .good .good) _ windows (bounds .core-bounds .ensures .names) (c .if3 .taken))
     (missed-writes _) _ _ (parts-needed k) (bounds .core-bounds .ensures .left)
-
-same-length-2 : tie.Need-same-length-2
-same-length-2 c = search needs
 
 returns-4 : tie.Need-returns-4
 returns-4 c =
@@ -147,17 +120,17 @@ pub analyse-core-spec : {M : Type 1} → statement M
 analyse-core-spec =
     tie.close
     (tie.spec
-    refused-requires
+    (λ c κs. search needs)
     returns
-    slice-aggregate-windows
-    windows-requires
-    cast-t12
-    refused-requires-2
+    (λ c. search needs)
+    (λ c κs. search needs)
+    (λ c. search needs)
+    (λ c κs. search needs)
     returns-2
-    slice-aggregate-core-bounds
+    (λ c. search needs)
     core-bounds-requires
-    cast-t18
-    same-length
+    (λ c. search needs)
+    (λ c. search needs)
     returns-3
-    same-length-2
+    (λ c. search needs)
     returns-4)

@@ -17,22 +17,13 @@ rows-there c = search (needs, length-mapped)
 times-there : (c : tie.Start) → length (c .args .t .times) ≡ 1024
 times-there c = search needs
 
-refused-requires : tie.Need-refused-requires
-refused-requires c κs = search needs
-
 returns : tie.Need-returns
 returns c = no-core _ _ _ (c .before .if1 .taken) (c .refused .ensures)
-
-core-of-requires : tie.Need-core-of-requires
-core-of-requires c κs = search needs
 
 analyse-core-requires : tie.Need-analyse-core-requires
 analyse-core-requires c κs =
     let s = c .before .before .before .before in
     subst IsCore (sym (c .before .core-of .ensures)) (core-of-good (s .args .t) (rows-there s) (times-there s) (s .pre) (s .args .core))
-
-same-length : tie.Need-same-length
-same-length c = search needs
 
 returns-2 : tie.Need-returns-2
 returns-2 c =
@@ -44,9 +35,9 @@ pub analyse-good-spec : {M : Type 1} → statement M
 analyse-good-spec =
     tie.close
     (tie.spec
-    refused-requires
+    (λ c κs. search needs)
     returns
-    core-of-requires
+    (λ c κs. search needs)
     analyse-core-requires
-    same-length
+    (λ c. search needs)
     returns-2)

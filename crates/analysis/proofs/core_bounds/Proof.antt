@@ -69,21 +69,9 @@ room-after c =
 loop-holds : tie.Need-loop-holds Inv-loop μ-loop
 loop-holds c = none-put (c .before .before .before .before .before .pre) _
 
-mul-row : tie.Need-mul-row Inv-loop μ-loop
-mul-row c = omega (arith, few c)
-
-element-copy-out-row : tie.Need-element-copy-out-row Inv-loop μ-loop
-element-copy-out-row c = few c
-
-cast-e : tie.Need-cast-e Inv-loop μ-loop
-cast-e c = search needs
-
 add-e : tie.Need-add-e Inv-loop μ-loop
 unfolding count
 add-e c = omega (arith, times-fit (c .before .before))
-
-mul-bounds-of-row : tie.Need-mul-bounds-of-row Inv-loop μ-loop
-mul-bounds-of-row c = omega (arith, few (c .before .before))
 
 shared-slice-read-bounds-of-row : tie.Need-shared-slice-read-bounds-of-row Inv-loop μ-loop
 shared-slice-read-bounds-of-row c =
@@ -151,15 +139,6 @@ slice-read-if1 c =
     let same = put-long b (l .before .loop .inv) (le-refl _) (l .loop-test .taken) _ (p .bounds-of-row .ensures) _ refl in
     omega (arith, room-after p, same)
 
-higher-of-requires : tie.Need-higher-of-requires Inv-loop μ-loop
-higher-of-requires c κs = search needs
-
-add-i : tie.Need-add-i Inv-loop μ-loop
-add-i c = omega (arith, few (turn (c .before .before .before .before .before)))
-
-loop-less : tie.Need-loop-less Inv-loop μ-loop
-loop-less c = omega (arith, turn (c .before .before .before .before .before) .loop-test .taken)
-
 loop-again : tie.Need-loop-again Inv-loop μ-loop
 loop-again c =
     let p = c .before .before .before .before .before in
@@ -187,11 +166,11 @@ core-bounds-spec =
     Inv-loop
     μ-loop
     loop-holds
-    mul-row
-    element-copy-out-row
-    cast-e
+    (λ c. omega (arith, few c))
+    (λ c. few c)
+    (λ c. search needs)
     add-e
-    mul-bounds-of-row
+    (λ c. omega (arith, few (c .before .before)))
     shared-slice-read-bounds-of-row
     mul-bounds-of-row-2
     sub-bounds-of-row
@@ -205,9 +184,9 @@ core-bounds-spec =
     sub-if1
     mul-if1
     slice-read-if1
-    higher-of-requires
-    add-i
-    loop-less
+    (λ c κs. search needs)
+    (λ c. omega (arith, few (turn (c .before .before .before .before .before))))
+    (λ c. omega (arith, turn (c .before .before .before .before .before) .loop-test .taken))
     loop-again
     same-length
     returns)

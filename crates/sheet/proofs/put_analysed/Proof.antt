@@ -36,17 +36,8 @@ is-core c =
 own-rows : (c : tie.After-core-of) → tasksIn (c .core-of .result) ≡ onCore (entry c .args .core) (tasksOf (entry c .args .t))
 own-rows c = ap tasksIn (c .core-of .ensures) ∙ tasks-in _
 
-core-of-requires : tie.Need-core-of-requires
-core-of-requires c κs = search needs
-
-slice-aggregate-analyse-core : tie.Need-slice-aggregate-analyse-core
-slice-aggregate-analyse-core c = search needs
-
 analyse-core-requires : tie.Need-analyse-core-requires
 analyse-core-requires c κs = is-core (c .before)
-
-slice-aggregate-put-core : tie.Need-slice-aggregate-put-core
-slice-aggregate-put-core c = search needs
 
 put-core-requires : tie.Need-put-core-requires
 put-core-requires c κs =
@@ -56,9 +47,6 @@ put-core-requires c κs =
       enough (is-core made) _ (search needs),
       fits-as (sym (text-is (is-core made) _ _ (s .pre .0) (own-rows made) refl (call .analyse-core .ensures))) (s .pre .2),
     )
-
-same-length : tie.Need-same-length
-same-length c = search needs
 
 returns : tie.Need-returns
 returns c =
@@ -72,10 +60,10 @@ pub put-analysed-spec : {M : Type 1} → statement M
 put-analysed-spec =
     tie.close
     (tie.spec
-    core-of-requires
-    slice-aggregate-analyse-core
+    (λ c κs. search needs)
+    (λ c. search needs)
     analyse-core-requires
-    slice-aggregate-put-core
+    (λ c. search needs)
     put-core-requires
-    same-length
+    (λ c. search needs)
     returns)

@@ -24,15 +24,9 @@ module _ (core : ℕ) (rows : List Row) (bounds : List ℕ) (v : Verdict) {code 
   unfolding coreBytes
   both h = rw (ne-eqb (codeOf v) 11 (λ e. h (own ∙ e)))
 
-code-of-requires : tie.Need-code-of-requires
-code-of-requires c κs = search needs
-
 put-core-line-requires : tie.Need-put-core-line-requires
 put-core-line-requires c κs =
     fits-as (only _ _ _ _ (c .before .before .code-of .ensures) (c .before .if1 .taken)) (c .before .before .before .before .before .pre .1)
-
-same-length : tie.Need-same-length
-same-length c = search needs
 
 returns : tie.Need-returns
 returns c =
@@ -57,9 +51,6 @@ put-core-line-requires-2 c κs =
     let k = starts _ _ _ (c9 .pre .1) in
     turn k (rowsText _ _ _) _ (both _ _ _ _ (c6 .code-of .ensures) (c5 .if1 .left)) (c3 .put-rows .ensures) .fits
 
-same-length-2 : tie.Need-same-length-2
-same-length-2 c = search needs
-
 returns-2 : tie.Need-returns-2
 returns-2 c =
     let c2 = c .before .before in
@@ -74,11 +65,11 @@ pub put-core-spec : {M : Type 1} → statement M
 put-core-spec =
     tie.close
     (tie.spec
-    code-of-requires
+    (λ c κs. search needs)
     put-core-line-requires
-    same-length
+    (λ c. search needs)
     returns
     put-rows-requires
     put-core-line-requires-2
-    same-length-2
+    (λ c. search needs)
     returns-2)

@@ -7,9 +7,6 @@ use Rattle.text.proofs.Lines.{word-room, word-turn}
 use Rattle.sheet.proofs.put_core_line.Statement.{statement}
 use Rattle.sheet.proofs.put_core_line.Tie as tie
 
-slice-aggregate-put-word : tie.Need-slice-aggregate-put-word
-slice-aggregate-put-word c = search needs
-
 put-word-requires : tie.Need-put-word-requires
 unfolding coreLine
 put-word-requires c κs = word-room coreWord _ _ (starts _ _ _ (c .before .before .before .pre))
@@ -31,9 +28,6 @@ put-verdict-requires c κs =
     let k1 = word-turn coreWord _ _ (starts _ _ _ (c11 .pre)) (c7 .put-word .ensures) in
     word-turn (decimal _) _ _ k1 (c3 .put-decimal .ensures) .fits
 
-same-length : tie.Need-same-length
-same-length c = search needs
-
 returns : tie.Need-returns
 unfolding coreLine
 returns c =
@@ -48,9 +42,9 @@ pub put-core-line-spec : {M : Type 1} → statement M
 put-core-line-spec =
     tie.close
     (tie.spec
-    slice-aggregate-put-word
+    (λ c. search needs)
     put-word-requires
     put-decimal-requires
     put-verdict-requires
-    same-length
+    (λ c. search needs)
     returns)

@@ -41,9 +41,6 @@ Inv-loop out₀ t p₀ core₀ out p core = Putting (cores t 0) out₀ p₀ out 
 abbrev μ-loop : tie.MeasureT-loop
 μ-loop out₀ t p₀ core₀ out p core = 4 - core
 
-slice-aggregate-put-word : tie.Need-slice-aggregate-put-word Inv-loop μ-loop
-slice-aggregate-put-word c = refl
-
 put-word-requires : tie.Need-put-word-requires Inv-loop μ-loop
 unfolding header line
 put-word-requires c κs = header-fits _ _ (c .before .before .before .pre .1)
@@ -61,21 +58,12 @@ put-analysed-requires c κs =
     let c9 = c2 .before .before .before .before .before .before .before in
     (omega arith, c9 .pre .0, piece-room _ _ _ (c2 .loop .inv) (c .before .loop-test .taken))
 
-add-core : tie.Need-add-core Inv-loop μ-loop
-add-core c = omega arith
-
-loop-less : tie.Need-loop-less Inv-loop μ-loop
-loop-less c = omega arith
-
 loop-again : tie.Need-loop-again Inv-loop μ-loop
 loop-again c =
     let c2 = c .before .before in
     let c4 = c2 .before .before in
     let c5 = c4 .before in
     piece-turn _ _ _ (c5 .loop .inv) (c4 .loop-test .taken) (c2 .put-analysed .ensures)
-
-same-length : tie.Need-same-length Inv-loop μ-loop
-same-length c = search needs
 
 returns : tie.Need-returns Inv-loop μ-loop
 unfolding header line
@@ -91,12 +79,12 @@ put-cores-spec =
     (tie.spec
     Inv-loop
     μ-loop
-    slice-aggregate-put-word
+    (λ c. refl)
     put-word-requires
     loop-holds
     put-analysed-requires
-    add-core
-    loop-less
+    (λ c. omega arith)
+    (λ c. omega arith)
     loop-again
-    same-length
+    (λ c. search needs)
     returns)

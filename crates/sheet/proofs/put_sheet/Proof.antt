@@ -47,12 +47,6 @@ module _ {s : List ℕ} {l : Loaded} (r : Read s l) where
 read-of : (c : tie.After-read) → Read (c .before .before .before .args .bytes .now) (c .read .result)
 read-of c = record { bytes = λ i. omega (arith, c .before .shared-slice-known .given i); few = search needs; same = c .read .ensures }
 
-read-requires : tie.Need-read-requires
-read-requires c κs = search needs
-
-code-of-requires : tie.Need-code-of-requires
-code-of-requires c κs = search needs
-
 put-file-line-requires : tie.Need-put-file-line-requires
 put-file-line-requires c κs =
     let c1 = c .before in
@@ -60,9 +54,6 @@ put-file-line-requires c κs =
     let c3 = c2 .before in
     let c6 = c3 .before .before .before in
     fits-as (refused-line (read-of c3) (c2 .code-of .ensures) (c1 .if1 .taken)) (fits (read-of c3) (c6 .pre))
-
-same-length : tie.Need-same-length
-same-length c = search needs
 
 returns : tie.Need-returns
 returns c =
@@ -81,9 +72,6 @@ put-cores-requires c κs =
     let r = read-of c3 in
     (fine r (c2 .code-of .ensures) (c1 .if1 .left), fits-as (good-cores r (c2 .code-of .ensures) (c1 .if1 .left)) (fits r (c6 .pre)))
 
-same-length-2 : tie.Need-same-length-2
-same-length-2 c = search needs
-
 returns-2 : tie.Need-returns-2
 returns-2 c =
     let c2 = c .before .before in
@@ -96,11 +84,11 @@ pub put-sheet-spec : {M : Type 1} → statement M
 put-sheet-spec =
     tie.close
     (tie.spec
-    read-requires
-    code-of-requires
+    (λ c κs. search needs)
+    (λ c κs. search needs)
     put-file-line-requires
-    same-length
+    (λ c. search needs)
     returns
     put-cores-requires
-    same-length-2
+    (λ c. search needs)
     returns-2)

@@ -7,20 +7,8 @@ use Rattle.text.proofs.Lines.{word-room, word-turn, end-room, end-put}
 use Rattle.sheet.proofs.put_verdict.Statement.{statement}
 use Rattle.sheet.proofs.put_verdict.Tie as tie
 
-code-of-requires : tie.Need-code-of-requires
-code-of-requires c κs = search needs
-
-number-of-requires : tie.Need-number-of-requires
-number-of-requires c κs = search needs
-
-slice-aggregate-put-word : tie.Need-slice-aggregate-put-word
-slice-aggregate-put-word c = search needs
-
 put-word-requires : tie.Need-put-word-requires
 put-word-requires c κs = word-room codeWord _ _ (starts _ _ _ (c .before .before .before .before .before .pre))
-
-cast-put-decimal : tie.Need-cast-put-decimal
-cast-put-decimal c = search needs
 
 put-decimal-requires : tie.Need-put-decimal-requires
 put-decimal-requires c κs =
@@ -29,9 +17,6 @@ put-decimal-requires c κs =
     let c9 = c7 .before .before in
     let k1 = word-turn codeWord _ _ (starts _ _ _ (c9 .pre)) (c3 .put-word .ensures) in
     rw (c7 .code-of .ensures) (word-room (decimal _) _ _ k1)
-
-slice-aggregate-put-word-2 : tie.Need-slice-aggregate-put-word-2
-slice-aggregate-put-word-2 c = search needs
 
 put-word-requires-2 : tie.Need-put-word-requires-2
 put-word-requires-2 c κs =
@@ -56,9 +41,6 @@ put-decimal-requires-2 c κs =
     let k3 = word-turn numberWord _ _ k2 (c3 .put-word2 .ensures) in
     rw (c15 .number-of .ensures) (end-room (decimal _) k3)
 
-same-length : tie.Need-same-length
-same-length c = search needs
-
 returns : tie.Need-returns
 returns c =
     let c2 = c .before .before in
@@ -77,14 +59,14 @@ pub put-verdict-spec : {M : Type 1} → statement M
 put-verdict-spec =
     tie.close
     (tie.spec
-    code-of-requires
-    number-of-requires
-    slice-aggregate-put-word
+    (λ c κs. search needs)
+    (λ c κs. search needs)
+    (λ c. search needs)
     put-word-requires
-    cast-put-decimal
+    (λ c. search needs)
     put-decimal-requires
-    slice-aggregate-put-word-2
+    (λ c. search needs)
     put-word-requires-2
     put-decimal-requires-2
-    same-length
+    (λ c. search needs)
     returns)
