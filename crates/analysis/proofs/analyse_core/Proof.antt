@@ -4,14 +4,13 @@ use native.Mathlib.Omega.{arith}
 use borrow.Author.Needs.{needs}
 use borrow.Author.Tests.{lt-ltb, le-ltb}
 use mathlib.Core.Path.{_≡_, refl, sym, ap, _∙_}
-use mathlib.Core.Bool.{true, false}
 use mathlib.Core.List.{List, map}
 use lib.ListN.{length, take, length-map}
 use Rattle.lists.specs.Lists.{over}
 use Rattle.lists.proofs.Overs.{take-over}
 use Rattle.model.specs.Task.{Task}
 use Rattle.model.specs.Bounds.{coreVerdict}
-use Rattle.table.specs.declared.Verdict.the-variants.{Good, NoRoom, NoWindow, Missed}
+use Rattle.table.specs.declared.Verdict.the-variants.{NoRoom}
 use Rattle.cores.specs.declared.Core.{Core}
 use Rattle.cores.specs.Cores.{tasksIn}
 use Rattle.cores.specs.Promises.{IsCore}
@@ -21,24 +20,6 @@ use Rattle.analysis.proofs.Said.{no-window, all-windows, missed, none-m
 use Rattle.analysis.proofs.Given.{gives-none, gives-all}
 use Rattle.analysis.proofs.analyse_core.Statement.{statement}
 use Rattle.analysis.proofs.analyse_core.Tie as tie
-
--- codes 10 and 11 write nothing
-room-writes : (n : ℕ) → writes (NoRoom n) ≡ false
-unfolding writes
-room-writes n = refl
-
-window-writes : (n : ℕ) → writes (NoWindow n) ≡ false
-unfolding writes
-window-writes n = refl
-
--- codes 0 and 12 write all bounds
-good-writes : writes Good ≡ true
-unfolding writes
-good-writes = refl
-
-missed-writes : (n : ℕ) → writes (Missed n) ≡ true
-unfolding writes
-missed-writes n = refl
 
 module _ {c : Core} (k : IsCore c) where
   -- the room that is needed is counted
@@ -72,18 +53,20 @@ module _ {c : Core} (k : IsCore c) where
       }
 
 returns : tie.Need-returns
+unfolding writes
 returns c =
     let k = c .before .before .before .pre in
-    gives-none _ _ _ _ (short k _ (c .before .if1 .taken)) (room-writes _) (c .refused .ensures)
+    gives-none _ _ _ _ (short k _ (c .before .if1 .taken)) refl (c .refused .ensures)
 
 returns-2 : tie.Need-returns-2
+unfolding writes
 returns-2 c =
     let call = c .before .before .before in
     let some = call .before .before in
     let k = some .before .before .pre in
     gives-none _ _ _ _
     (enough k _ (some .if1 .left) ∙ no-window _ (k .good .good) _ (call .windows .ensures .names) (c .before .if2 .taken))
-    (window-writes _) (c .refused2 .ensures)
+    refl (c .refused2 .ensures)
 
 core-bounds-requires : tie.Need-core-bounds-requires
 core-bounds-requires c κs =
@@ -93,6 +76,7 @@ core-bounds-requires c κs =
     to-bound (some .before .before .pre) _ _ _ _ (call .windows .ensures) (none .if2 .left) (some .if1 .left)
 
 returns-3 : tie.Need-returns-3
+unfolding writes
 returns-3 c =
     let bounds = c .before .before .before in
     let none = bounds .before .before .before in
@@ -102,9 +86,10 @@ returns-3 c =
     let windows = all-windows _ (k .good .good) _ (call .windows .ensures .names) (none .if2 .left) in
     gives-all _ _ _ _
     (enough k _ (some .if1 .left) ∙ missed _ (k .good .good) _ windows (bounds .core-bounds .ensures .names) (c .if3 .taken))
-    (missed-writes _) _ _ (parts-needed k) (bounds .core-bounds .ensures .left)
+    refl _ _ (parts-needed k) (bounds .core-bounds .ensures .left)
 
 returns-4 : tie.Need-returns-4
+unfolding writes
 returns-4 c =
     let bounds = c .before .before .before in
     let none = bounds .before .before .before in
@@ -114,7 +99,7 @@ returns-4 c =
     let windows = all-windows _ (k .good .good) _ (call .windows .ensures .names) (none .if2 .left) in
     gives-all _ _ _ _
     (enough k _ (some .if1 .left) ∙ none-missed _ (k .good .good) _ windows (bounds .core-bounds .ensures .names) (c .if3 .left))
-    good-writes _ _ (parts-needed k) (bounds .core-bounds .ensures .left)
+    refl _ _ (parts-needed k) (bounds .core-bounds .ensures .left)
 
 pub analyse-core-spec : {M : Type 1} → statement M
 analyse-core-spec =
