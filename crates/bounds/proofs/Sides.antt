@@ -61,12 +61,7 @@ work-le [] x r = omega arith
 work-le (t ∷ []) x r = absurd r
 work-le (t ∷ c ∷ more) x r =
     let one : up x t * c ≤ x * 1073741760 = mul-le-mul (up-small x t (r .0)) (r .1) in
-    omega (
-      arith,
-      work-le more x (r .2),
-      suc-mul (suc (length more)) (x * 1073741760),
-      suc-mul (length more) (x * 1073741760),
-    )
+    omega (arith, work-le more x (r .2), suc-mul (suc (length more)) (x * 1073741760), suc-mul (length more) (x * 1073741760))
 
 -- rows in range: their work fits in 61 bits
 pub work-fits : (rows : List ℕ) (x : ℕ) → Summable rows → x ≤ 16777215 → workAt rows x ≤ 2305842871774740480

@@ -54,13 +54,7 @@ module _ {highers preempts : List ℕ} {coop : Bool} {base from time : ℕ} (a :
   -- what is before the part and the part fit in the window, with the higher rows' work
   fits : base + time + work (higher rows t) L ≤ L
   fits =
-      omega (
-        arith,
-        a .timed,
-        a .done,
-        part-fits t (core .good t row) r,
-        inside rows core t row L windowed j (a .inside),
-      )
+      omega (arith, a .timed, a .done, part-fits t (core .good t row) r, inside rows core t row L windowed j (a .inside))
 
   -- the window is at most the limit
   pub window-small : L ≤ 16777215

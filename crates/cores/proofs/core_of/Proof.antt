@@ -155,15 +155,22 @@ rows-there c = search (needs, length-mapped)
 times-there : (c : tie.Start Inv-loop μ-loop) → length (c .args .t1 .times) ≡ 1024
 times-there c = search needs
 
--- the times of the row have room where they come from, and where they go
+-- the times of the row have room where they come from
 room-there : (c : tie.In-loop Inv-loop μ-loop)
     → c .before .loop .used + getD (called c .args .t1 .rows) (c .before .loop .i) zeroRow .parts ≤ 1024
 room-there c = coming (c .before .loop .inv) (c .loop-test .taken) .room
 
+-- within the table's times
+lent-there : (c : tie.In-loop Inv-loop μ-loop)
+    → c .before .loop .used + getD (called c .args .t1 .rows) (c .before .loop .i) zeroRow .parts ≤ length (called c .args .t1 .times)
+lent-there c = omega (arith, room-there c, times-there (called c))
+
+-- and where they go
 room-here : (c : tie.In-loop Inv-loop μ-loop)
     → c .before .loop .parts + getD (called c .args .t1 .rows) (c .before .loop .i) zeroRow .parts ≤ 1024
 room-here c = room (c .before .loop .inv) (c .loop-test .taken)
 
+-- and the row has a place
 place-here : (c : tie.In-loop Inv-loop μ-loop) → c .before .loop .count < 64
 place-here c = place (c .before .loop .inv) (c .loop-test .taken)
 
@@ -183,16 +190,6 @@ loop-holds c =
       less = search needs;
     }
 
-part-copy-start : tie.Need-part-copy-start Inv-loop μ-loop
-part-copy-start c =
-    let l = turn (c .before) in
-    omega (arith, room-there l, times-there (called l))
-
-part-copy-end : tie.Need-part-copy-end Inv-loop μ-loop
-part-copy-end c =
-    let l = turn (c .before) in
-    omega (arith, room-there l, times-there (called l))
-
 part-times-end : tie.Need-part-times-end Inv-loop μ-loop
 part-times-end c =
     let l = turn (c .before .before) in
@@ -206,16 +203,6 @@ copy-requires c κs =
 -- a row of the core, once its times are copied
 abbrev copied : tie.After-times2 Inv-loop μ-loop → tie.In-loop Inv-loop μ-loop
 copied c = turn (c .before .before .before .before .before)
-
-part-asked-of-start : tie.Need-part-asked-of-start Inv-loop μ-loop
-part-asked-of-start c =
-    let l = copied (c .before) in
-    omega (arith, room-there l, times-there (called l))
-
-part-asked-of-end : tie.Need-part-asked-of-end Inv-loop μ-loop
-part-asked-of-end c =
-    let l = copied (c .before) in
-    omega (arith, room-there l, times-there (called l))
 
 asked-of-requires : tie.Need-asked-of-requires Inv-loop μ-loop
 asked-of-requires c κs =
@@ -251,8 +238,8 @@ core-of-spec =
     (λ c. omega (arith, room-there (c .before .before)))
     (λ c. omega (arith, room-there (turn c)))
     (λ c. omega (arith, room-there (turn c)))
-    part-copy-start
-    part-copy-end
+    (λ c. omega (arith, lent-there (turn (c .before))))
+    (λ c. omega (arith, lent-there (turn (c .before))))
     (λ c. omega (arith, room-here (turn (c .before .before))))
     (λ c. omega (arith, room-here (turn (c .before .before))))
     (λ c. omega (arith, room-here (turn (c .before .before))))
@@ -262,8 +249,8 @@ core-of-spec =
     (λ c. place-here (copied c))
     (λ c. omega (arith, room-there (copied c)))
     (λ c. omega (arith, room-there (copied c)))
-    part-asked-of-start
-    part-asked-of-end
+    (λ c. omega (arith, lent-there (copied (c .before))))
+    (λ c. omega (arith, lent-there (copied (c .before))))
     asked-of-requires
     (λ c. omega (arith, place-here (copied (c .before .before .before))))
     (λ c. place-here (copied (c .before .before .before)))

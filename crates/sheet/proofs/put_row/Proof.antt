@@ -30,17 +30,14 @@ loop-holds c = starts _ _ _ (c .before .before .pre .1)
 put-bound-requires : tie.Need-put-bound-requires Inv-loop μ-loop
 unfolding bound-at
 put-bound-requires c κs =
-    let c2 = c .before .before in
-    let c3 = c2 .before in
-    (omega (arith, c3 .before .before .before .pre .0), piece-room _ _ _ (c3 .loop .inv) (c2 .loop-test .taken))
+    let l = c .before .before .before in
+    (omega (arith, l .before .before .before .pre .0), piece-room _ _ _ (l .loop .inv) (c .before .before .loop-test .taken))
 
 loop-again : tie.Need-loop-again Inv-loop μ-loop
 unfolding bound-at
 loop-again c =
-    let c2 = c .before .before in
-    let c5 = c2 .before .before .before in
-    let c6 = c5 .before in
-    piece-turn _ _ _ (c6 .loop .inv) (c5 .loop-test .taken) (c2 .put-bound .ensures)
+    let turned = c .before .before .before .before .before in
+    piece-turn _ _ _ (turned .before .loop .inv) (turned .loop-test .taken) (c .before .before .put-bound .ensures)
 
 returns : tie.Need-returns Inv-loop μ-loop
 returns c = pieces-end _ _ _ (c .before .loop .inv) (c .loop-test .left)

@@ -34,32 +34,30 @@ module _ {core : ℕ} {t : Table} {bounds out₀ : List ℕ} {at : ℕ} {out : L
     (k : Rows core t bounds out₀ at out p used i) where
   module _ (h : i < t .count) (n : ℕ) (e : n ≡ getD (t .rows) i zeroRow .parts) where
     -- the next row
-    row : Row
+    abbrev row : Row
     row = getD (t .rows) i zeroRow
 
     -- the row's own bounds
-    own : List ℕ
+    abbrev own : List ℕ
     own = take (used + n - used) (drop used bounds)
 
     -- it, and the others behind it
     next : drop i (usedRows t) ≡ row ∷ drop (i + 1) (usedRows t)
-    unfolding row
     next = used-more (t .count) (t .rows) i h (k .rows-long)
 
     -- there are bounds for it and for the others
     left-next : used + n + partsIn (drop (i + 1) (usedRows t)) ≤ length bounds
-    unfolding total row
+    unfolding total
     left-next = omega (arith, k .left, e, ap partsIn next)
 
     -- no more than a table has times
     own-few : length own ≤ 1024
-    unfolding own
     own-few = omega (arith, part-length used n bounds (omega (arith, left-next)), left-next, k .enough .most)
 
     -- the lines of the row, then those of the others
     cut : rowsText core (drop i (usedRows t)) (drop used bounds)
         ≡ rowText core row own ++ rowsText core (drop (i + 1) (usedRows t)) (drop (used + n) bounds)
-    unfolding rowsText own row
+    unfolding rowsText
     cut = rw (next, ← e, drop-drop, part-is used n bounds)
 
     -- its lines have room
@@ -105,14 +103,12 @@ bounds-end c =
     (omega (arith, next), omega (arith, next, k .enough .most))
 
 put-row-requires : tie.Need-put-row-requires Inv-loop μ-loop
-unfolding own row
 put-row-requires c κs =
     let l = c .before .before .before .before in
     let k = l .before .loop .inv in
     (own-few k (l .loop-test .taken) _ refl, fits k (l .loop-test .taken) _ refl)
 
 loop-again : tie.Need-loop-again Inv-loop μ-loop
-unfolding own row
 loop-again c =
     let call = c .before .before in
     let l = call .before .before .before .before .before in
