@@ -186,15 +186,8 @@ module _ {c : Core} {ws room₀ : List ℕ} (b : ToBound c ws (length room₀)) 
               ahead = rw count (coming .ahead);
               place = rw length-append (omega (arith, s .place));
               begins =
-                  omega (
-                    arith,
-                    s .begins,
-                    count,
-                    parts-are,
-                    bounds-long (tasksIn c) (coming .task),
-                    ap length (each-snoc f (s .seen) (coming .task)),
-                    length-append (each f (s .seen)) (f (coming .task)),
-                  );
+                  rw (each-snoc f (s .seen) (coming .task), length-append)
+                  (omega (arith, s .begins, count, parts-are, bounds-long (tasksIn c) (coming .task)));
               is = stands ∙ ap (λ (l : List ℕ). over l room₀) (sym (each-snoc f (s .seen) (coming .task)));
               found = e;
             }

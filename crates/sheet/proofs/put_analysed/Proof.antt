@@ -14,14 +14,6 @@ use Rattle.sheet.proofs.CoreTexts.{enough, text-is}
 use Rattle.sheet.proofs.put_analysed.Statement.{statement}
 use Rattle.sheet.proofs.put_analysed.Tie as tie
 
--- the rows of a table in memory, by its type
-rows-there : (c : tie.Start) → length (c .args .t .rows) ≡ 64
-rows-there c = search (needs, length-mapped)
-
--- and its times
-times-there : (c : tie.Start) → length (c .args .t .times) ≡ 1024
-times-there c = search needs
-
 -- the function's entry, as the call sees it
 abbrev entry : tie.After-core-of → tie.Start
 entry c = c .before .before
@@ -29,8 +21,8 @@ entry c = c .before .before
 -- the core is one of a good table
 is-core : (c : tie.After-core-of) → IsCore (c .core-of .result)
 is-core c =
-    let s = entry c in
-    subst IsCore (sym (c .core-of .ensures)) (core-of-good (s .args .t) (rows-there s) (times-there s) (s .pre .1) (s .args .core))
+    let t = entry c .args .t in
+    core-of-good t (search (needs, length-mapped)) (search needs) (entry c .pre .1) (entry c .args .core) (c .core-of .ensures)
 
 -- its rows are those of the table on that core
 own-rows : (c : tie.After-core-of) → tasksIn (c .core-of .result) ≡ onCore (entry c .args .core) (tasksOf (entry c .args .t))
