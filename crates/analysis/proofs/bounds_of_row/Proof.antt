@@ -42,9 +42,6 @@ own-first-requires c κs = (own-below (c .before .before .before .before .pre .0
 preemptive-loads-requires : tie.Need-preemptive-loads-requires
 preemptive-loads-requires c κs = (own-below (entry (c .before .before) .pre .0 .at) .1, search needs)
 
-slice-aggregate-row-bounds : tie.Need-slice-aggregate-row-bounds
-slice-aggregate-row-bounds c = sym (length-take-le _ _ (fit (c .before .before .before .before .before .before .before)))
-
 row-bounds-requires : tie.Need-row-bounds-requires
 row-bounds-requires c κs =
     let pre = c .before .before .before .before .before .before in
@@ -77,7 +74,7 @@ bounds-of-row-spec =
     (λ c. omega (arith, own-below (entry (c .before .before .before .before) .pre .0 .at)))
     (λ c. omega (arith, own-below (entry (c .before .before .before .before) .pre .0 .at)))
     (λ c. fit (c .before .before .before .before .before .before))
-    slice-aggregate-row-bounds
+    (λ c. sym (length-take-le _ _ (fit (c .before .before .before .before .before .before .before))))
     (λ c. pre-fit (c .before .before .before .before))
     (λ c. sym (length-take-le _ _ (pre-fit (c .before .before .before .before .before))))
     row-bounds-requires

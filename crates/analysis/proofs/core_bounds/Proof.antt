@@ -55,12 +55,6 @@ module _ (c : tie.In-loop Inv-loop μ-loop) where
   some : 1 ≤ count
   some = parts-some (called (c .before) .pre) (c .before .loop .inv) (c .loop-test .taken)
 
--- the room after the row's bounds are put there
-room-after : (c : tie.After-bounds-of-row Inv-loop μ-loop)
-    → turn c .before .loop .a + count (turn c) - 1 < length (called (turn c .before) .args .room .now)
-room-after c =
-    let l = turn c .before in omega (arith, room-fit (turn c), some (turn c), room-long (called l .pre) (l .loop .inv))
-
 loop-holds : tie.Need-loop-holds Inv-loop μ-loop
 loop-holds c = none-put (c .before .before .before .before .before .pre)
 
@@ -91,8 +85,9 @@ slice-read-if1 c =
     let p = c .before .before .before in
     let l = turn p in
     let b = called (l .before) .pre in
-    let same = put-long b (l .before .loop .inv) (l .loop-test .taken) _ (p .bounds-of-row .ensures) _ refl in
-    omega (arith, room-after p, same)
+    let s = l .before .loop .inv in
+    let same = put-long b s (l .loop-test .taken) _ (p .bounds-of-row .ensures) _ refl in
+    omega (arith, room-fit l, some l, room-long b s, same)
 
 loop-again : tie.Need-loop-again Inv-loop μ-loop
 loop-again c =
@@ -107,9 +102,6 @@ loop-again c =
     (λ w. w .2 ∙ late-next b s inside _ put _ refl (w .0 .taken) _ (w .1 .ensures))
     (λ w. w .1 ∙ early-next b s inside _ put _ refl (w .0 .left))
     (c .if1 .came))
-
-same-length : tie.Need-same-length Inv-loop μ-loop
-same-length c = room-long (called (c .before) .pre) (c .before .loop .inv)
 
 returns : tie.Need-returns Inv-loop μ-loop
 returns c = all-put (called (c .before) .pre) (c .before .loop .inv) (c .loop-test .left)
@@ -143,5 +135,5 @@ core-bounds-spec =
     (λ c. omega (arith, few (turn (c .before .before .before .before .before))))
     (λ c. omega (arith, turn (c .before .before .before .before .before) .loop-test .taken))
     loop-again
-    same-length
+    (λ c. room-long (called (c .before) .pre) (c .before .loop .inv))
     returns)

@@ -51,9 +51,6 @@ loop-again c =
     (λ w. w .1 ∙ passed-next k s inside _ is (w .0 .left))
     (c .if1 .came))
 
-same-length : tie.Need-same-length Inv-loop μ-loop
-same-length c = c .before .loop .inv .same
-
 returns : tie.Need-returns Inv-loop μ-loop
 returns c = all-sought (called (c .before) .pre .0) (c .before .loop .inv) (c .loop-test .left)
 
@@ -73,5 +70,5 @@ windows-spec =
     (λ c. omega (arith, few (c .before .before)))
     (λ c. omega (arith, c .before .before .loop-test .taken))
     loop-again
-    same-length
+    (λ c. c .before .loop .inv .same)
     returns)

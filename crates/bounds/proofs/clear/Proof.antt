@@ -28,9 +28,6 @@ loop-again c =
       ap (λ (ys : List ℕ). set ys (c .before .loop .i) 0) (c .before .loop .inv .2) ∙ fill-more (c .before .loop .i) 0 xs in-range,
     )
 
-same-length : tie.Need-same-length Inv-loop μ-loop
-same-length c = c .before .loop .inv .1
-
 returns : tie.Need-returns Inv-loop μ-loop
 returns c =
     let xs : List ℕ = c .before .before .args .bounds .now in
@@ -49,5 +46,5 @@ clear-spec =
     (λ c. omega arith)
     (λ c. omega arith)
     loop-again
-    same-length
+    (λ c. c .before .loop .inv .1)
     returns)

@@ -112,9 +112,6 @@ room c =
     let same = called c .pre .1 in
     omega (arith, same, kept (c .before .loop .inv) same, c .loop-test .taken)
 
-mul-larger : tie.Need-mul-larger Inv-loop μ-loop
-mul-larger c = omega (arith, room (c .before .before .before .before), called (c .before .before .before .before) .good)
-
 add-done : tie.Need-add-done Inv-loop μ-loop
 add-done c =
     let d = turned c in
@@ -127,9 +124,6 @@ loop-again c =
     let e = c .before .before .before .before .part-end in
     one-more (d .before .loop .inv) (called d .pre .1) (d .loop-test .taken) (e .result) (e .ensures) (c .larger .result)
     (c .larger .ensures)
-
-same-length : tie.Need-same-length Inv-loop μ-loop
-same-length c = kept (c .before .loop .inv) (c .before .before .before .before .before .before .pre .1)
 
 returns : tie.Need-returns Inv-loop μ-loop
 returns c = all-raised (c .before .loop .inv) (c .before .before .before .before .before .before .pre .1) (c .loop-test .left)
@@ -147,7 +141,7 @@ job-parts-spec =
     part-end-requires
     (λ c. range (c .before .before) .0)
     (λ c. omega (arith, range (c .before .before) .1))
-    mul-larger
+    (λ c. omega (arith, room (c .before .before .before .before), called (c .before .before .before .before) .good))
     (λ c. room (c .before .before .before .before .before))
     (λ c κs. search needs)
     (λ c. omega (arith, room (turned c)))
@@ -156,5 +150,5 @@ job-parts-spec =
     (λ c. omega arith)
     (λ c. omega arith)
     loop-again
-    same-length
+    (λ c. kept (c .before .loop .inv) (c .before .before .before .before .before .before .pre .1))
     returns)

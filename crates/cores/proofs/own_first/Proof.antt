@@ -45,9 +45,6 @@ put-loads-requires c κs =
     let s = c .before .before .before in
     (s .pre .0 .1, simp length-set (omega (arith, s .pre .1, own-fits s)))
 
-same-length : tie.Need-same-length
-same-length c = c .before .before .put-loads .kept .1 .1 .1 .1 .0 ∙ simp length-set
-
 returns : tie.Need-returns
 unfolding each
 returns c =
@@ -64,5 +61,5 @@ own-first-spec =
     (λ c. search needs)
     (λ c. simp length-set (omega arith))
     put-loads-requires
-    same-length
+    (λ c. c .before .before .put-loads .kept .1 .1 .1 .1 .0 ∙ simp length-set)
     returns)

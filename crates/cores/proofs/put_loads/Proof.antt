@@ -138,9 +138,6 @@ loop-again c =
     (λ w. rw (w .1, w .2) (row-passed p (next-row l) (sym (c .before .is-wanted .ensures) ∙ w .0 .left)))
     (c .if1 .came)
 
-same-length : tie.Need-same-length Inv-loop μ-loop
-same-length c = room-length (c .before .loop .inv)
-
 returns : tie.Need-returns Inv-loop μ-loop
 returns c =
     let s = c .before .before .before .args in
@@ -165,5 +162,5 @@ put-loads-spec =
     (λ c. omega arith)
     (λ c. omega arith)
     loop-again
-    same-length
+    (λ c. room-length (c .before .loop .inv))
     returns)

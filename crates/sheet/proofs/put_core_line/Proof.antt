@@ -14,29 +14,25 @@ put-word-requires c κs = word-room coreWord _ _ (starts _ _ _ (c .before .befor
 put-decimal-requires : tie.Need-put-decimal-requires
 unfolding coreLine
 put-decimal-requires c κs =
-    let c3 = c .before .before .before in
-    let c7 = c3 .before .before .before .before in
-    let k1 = word-turn coreWord _ _ (starts _ _ _ (c7 .pre)) (c3 .put-word .ensures) in
-    word-room (decimal _) _ _ k1
+    let word = c .before .before .before in
+    let k = word-turn coreWord _ _ (starts _ _ _ (word .before .before .before .before .pre)) (word .put-word .ensures) in
+    word-room (decimal _) _ _ k
 
 put-verdict-requires : tie.Need-put-verdict-requires
 unfolding coreLine
 put-verdict-requires c κs =
-    let c3 = c .before .before .before in
-    let c7 = c3 .before .before .before .before in
-    let c11 = c7 .before .before .before .before in
-    let k1 = word-turn coreWord _ _ (starts _ _ _ (c11 .pre)) (c7 .put-word .ensures) in
-    word-turn (decimal _) _ _ k1 (c3 .put-decimal .ensures) .fits
+    let number = c .before .before .before in
+    let word = number .before .before .before .before in
+    let k = word-turn coreWord _ _ (starts _ _ _ (word .before .before .before .before .pre)) (word .put-word .ensures) in
+    word-turn (decimal _) _ _ k (number .put-decimal .ensures) .fits
 
 returns : tie.Need-returns
 unfolding coreLine
 returns c =
-    let c2 = c .before .before in
-    let c6 = c2 .before .before .before .before in
-    let c10 = c6 .before .before .before .before in
-    let c14 = c10 .before .before .before .before in
-    let k1 = word-turn coreWord _ _ (starts _ _ _ (c14 .pre)) (c10 .put-word .ensures) in
-    last (word-turn (decimal _) _ _ k1 (c6 .put-decimal .ensures)) (c2 .put-verdict .ensures)
+    let number = c .before .before .before .before .before .before in
+    let word = number .before .before .before .before in
+    let k = word-turn coreWord _ _ (starts _ _ _ (word .before .before .before .before .pre)) (word .put-word .ensures) in
+    last (word-turn (decimal _) _ _ k (number .put-decimal .ensures)) (c .before .before .put-verdict .ensures)
 
 pub put-core-line-spec : {M : Type 1} → statement M
 put-core-line-spec =

@@ -68,10 +68,8 @@ put-bytes-requires c κs = fits (worked-here (c .before .before .before .before)
 
 returns-2 : tie.Need-returns-2
 returns-2 c =
-    let c2 = c .before .before in
-    let c5 = c2 .before .before .before in
-    let c7 = c5 .before .before in
-    done (worked-here (c7)) (c5 .if1 .left) (c2 .put-bytes .ensures)
+    let roomy = c .before .before .before .before .before in
+    done (worked-here (roomy .before .before)) (roomy .if1 .left) (c .before .before .put-bytes .ensures)
 
 pub sheet-spec : {M : Type 1} → statement M
 sheet-spec =
