@@ -21,7 +21,7 @@ use Rattle.model.specs.Least.{value}
 use Rattle.model.specs.Bounds.{window, bound, rowBounds, meetsDeadline, highest, idOf}
 use Rattle.table.specs.declared.Row.{Row}
 use Rattle.table.specs.declared.Table.{Table}
-use Rattle.table.specs.Memory.{zeroRow, stored, tasksOf}
+use Rattle.table.specs.Memory.{zeroRow, tasksOf}
 use Rattle.table.proofs.Ahead.{Ahead, lent, Next, next, none-ahead, stored-ahead}
 use Rattle.cores.specs.declared.Core.{Core}
 use Rattle.cores.specs.Cores.{tasksIn}
@@ -51,37 +51,45 @@ pub record BoundsPut (own : Table) (room₀ room : List ℕ) (top : Top) (a i : 
   pub is : room ≡ over (each (rowBounds (tasksOf own)) seen) room₀
   pub found : top ≡ topOf (highest (late (tasksOf own)) seen)
 
-module _ {c : Core} {ws : List ℕ} {size : ℕ} (b : ToBound c ws size) where
+-- numbers written behind those in front
+behind-front : (new old more : List ℕ) (size : ℕ) {room put : List ℕ} {a : ℕ} → room ≡ over new old → a ≡ length new → put ≡ more
+    → size ≡ length more → take a room ++ (put ++ drop size (drop a room)) ≡ over (new ++ more) old
+behind-front new old more size is at own long = rw (is, at, own) (over-part new old more size long)
+
+module _ {c : Core} {ws room₀ : List ℕ} (b : ToBound c ws (length room₀)) where
   -- at first no row is seen
-  pub none-put : (room : List ℕ) → BoundsPut (c .own) room room (record { id = 0; priority = 0 }) 0 0
+  pub none-put : BoundsPut (c .own) room₀ room₀ (record { id = 0; priority = 0 }) 0 0
   unfolding highest topOf each
-  none-put room =
+  none-put =
       let k = b .core in
       let rows : List Task = tasksIn c in
-      let laid : c .own ≡ stored rows = ap (λ (x : Core). x .own) (k .is) in
       record {
         seen = [];
         left = rows;
         split = refl;
-        ahead = subst (λ (t : Table). Ahead t 0 0 rows) (sym laid)
+        ahead = subst (λ (x : Core). Ahead (x .own) 0 0 rows) (sym (k .is))
             (stored-ahead rows (k .good .few) (omega (arith, times-count rows, k .fits)) (k .good .good));
         place = refl;
         begins = refl;
-        is = sym (over-none room);
+        is = sym (over-none room₀);
         found = refl;
       }
 
-  module _ {room₀ room : List ℕ} {top : Top} {a i : ℕ} (s : BoundsPut (c .own) room₀ room top a i) where
-    -- the room is as long as ever
-    pub room-long : size ≤ length room₀ → length room ≡ length room₀
-    room-long enough =
+  module _ {room : List ℕ} {top : Top} {a i : ℕ} (s : BoundsPut (c .own) room₀ room top a i) where
+    -- the bounds of the rows left have room behind those that are put
+    left-fit : a + length (each (rowBounds (tasksIn c)) (s .left)) ≤ length room₀
+    left-fit =
         let f : Task → List ℕ = rowBounds (tasksIn c) in
         let all : length (each f (tasksIn c)) ≡ length (each f (s .seen)) + length (each f (s .left))
         = ap (λ (ts : List Task). length (each f ts)) (s .split)
         ∙ ap length (each-append f (s .seen) (s .left)) ∙ length-append (each f (s .seen)) _ in
-        ap length (s .is) ∙ over-length _ room₀ (omega (arith, bounds-length (tasksIn c) (tasksIn c), b .enough))
+        omega (arith, s .begins, bounds-length (tasksIn c) (tasksIn c), b .enough)
 
-    module _ (enough : size ≤ length room₀) (inside : i < c .own .count) where
+    -- the room is as long as ever
+    pub room-long : length room ≡ length room₀
+    room-long = ap length (s .is) ∙ over-length _ room₀ (omega (arith, s .begins, left-fit))
+
+    module _ (inside : i < c .own .count) where
       -- the row that is next
       pub coming : Next (c .own) a i (s .left)
       coming = next (s .left) (s .ahead) inside
@@ -94,11 +102,9 @@ module _ {c : Core} {ws : List ℕ} {size : ℕ} (b : ToBound c ws size) where
       unfolding Place
       at-place =
           let ts : List Task = s .seen ++ (coming .task ∷ coming .others) in
-          let here : Place ts (length (s .seen) + 0) (coming .task)
-          = place-right (s .seen) (coming .task ∷ coming .others) 0 (coming .task) refl in
-          let there : Place ts i (coming .task)
-          = subst (λ (n : ℕ). Place ts n (coming .task)) (add-zero (length (s .seen)) ∙ sym (s .place)) here in
-          subst (λ (us : List Task). Place us i (coming .task)) (sym split-here) there
+          subst (λ (us : List Task). Place us i (coming .task)) (sym split-here)
+          (subst (λ (n : ℕ). Place ts n (coming .task)) (add-zero (length (s .seen)) ∙ sym (s .place))
+          (place-right (s .seen) (coming .task ∷ coming .others) 0 (coming .task) refl))
 
       -- so many parts
       pub parts-are : getD (c .own .rows) i zeroRow .parts ≡ parts (coming .task)
@@ -111,14 +117,8 @@ module _ {c : Core} {ws : List ℕ} {size : ℕ} (b : ToBound c ws size) where
 
       -- its bounds have room
       pub bounds-fit : a + getD (c .own .rows) i zeroRow .parts ≤ length room₀
-      bounds-fit =
-          let f = rowBounds (tasksIn c) in
-          let all : length (each f (tasksIn c)) ≡ length (each f (s .seen)) + length (each f (coming .task ∷ coming .others))
-          = ap (λ (ts : List Task). length (each f ts)) split-here
-          ∙ ap length (each-append f (s .seen) _) ∙ length-append (each f (s .seen)) _ in
-          let own : length (each f (coming .task ∷ coming .others)) ≡ length (f (coming .task)) + length (each f (coming .others))
-          = unfold each in length-append (f (coming .task)) _ in
-          omega (arith, s .begins, bounds-length (tasksIn c) (tasksIn c), bounds-long (tasksIn c) (coming .task), parts-are, b .enough)
+      unfolding total
+      bounds-fit = omega (arith, left-fit, bounds-length (tasksIn c) (s .left), ap (total parts) (coming .first), parts-are)
 
       -- there is a window for it
       pub window-there : i < length ws
@@ -148,19 +148,12 @@ module _ {c : Core} {ws : List ℕ} {size : ℕ} (b : ToBound c ws size) where
         stands : take a room ++ (put ++ drop (a + n - a) (drop a room))
             ≡ over (each (rowBounds (tasksIn c)) (s .seen) ++ rowBounds (tasksIn c) (coming .task)) room₀
         stands =
-            let new : List ℕ = each (rowBounds (tasksIn c)) (s .seen) in
-            let more : List ℕ = rowBounds (tasksIn c) (coming .task) in
-            let own : put ≡ more = left ∙ bounds-on bounding in
-            let size : a + n - a ≡ length more = omega (arith, count, parts-are, bounds-long (tasksIn c) (coming .task)) in
-            ap (λ (l : List ℕ). take a l ++ (put ++ drop (a + n - a) (drop a l))) (s .is)
-            ∙ ap (λ (k : ℕ). take k (over new room₀) ++ (put ++ drop (a + n - a) (drop k (over new room₀)))) (s .begins)
-            ∙ ap (λ (l : List ℕ). take (length new) (over new room₀) ++ (l ++ drop (a + n - a) (drop (length new) (over new room₀)))) own
-            ∙ over-part new room₀ more (a + n - a) size
+            behind-front _ room₀ (rowBounds (tasksIn c) (coming .task)) (a + n - a) (s .is) (s .begins) (left ∙ bounds-on bounding)
+            (omega (arith, count, parts-are, bounds-long (tasksIn c) (coming .task)))
 
         -- and the room stays as long
         pub put-long : length (take a room ++ (put ++ drop (a + n - a) (drop a room))) ≡ length room₀
         put-long =
-            let new : List ℕ = each (rowBounds (tasksIn c)) (s .seen) in
             ap length stands
             ∙ over-length _ room₀
             (rw length-append (omega (arith, bounds-fit, s .begins, parts-are, bounds-long (tasksIn c) (coming .task))))
@@ -193,15 +186,8 @@ module _ {c : Core} {ws : List ℕ} {size : ℕ} (b : ToBound c ws size) where
               ahead = rw count (coming .ahead);
               place = rw length-append (omega (arith, s .place));
               begins =
-                  omega (
-                    arith,
-                    s .begins,
-                    count,
-                    parts-are,
-                    bounds-long (tasksIn c) (coming .task),
-                    ap length (each-snoc f (s .seen) (coming .task)),
-                    length-append (each f (s .seen)) (f (coming .task)),
-                  );
+                  rw (each-snoc f (s .seen) (coming .task), length-append)
+                  (omega (arith, s .begins, count, parts-are, bounds-long (tasksIn c) (coming .task)));
               is = stands ∙ ap (λ (l : List ℕ). over l room₀) (sym (each-snoc f (s .seen) (coming .task)));
               found = e;
             }

@@ -1,5 +1,5 @@
 -- A row's window as a number: 0 exactly where there is none. Assumes nothing.
-use Prim.Native.Nat.{_≤_}
+use Prim.Native.Nat.{ℕ, _≤_}
 use native.Mathlib.Omega.{arith}
 use mathlib.Core.Path.{_≡_, refl}
 use mathlib.Core.Bool.{true, false, not}
@@ -12,6 +12,12 @@ use Rattle.model.specs.Bounds.{limit, demand, window}
 use Rattle.model.proofs.Least.{least-says}
 use Rattle.analysis.specs.Promises.{windowLength, lacks}
 
+-- what is found lies within the limit
+pub value-most : (g : ℕ → ℕ) (from most : ℕ) (a : Found) → Says g from most a → value a ≤ most
+unfolding value
+value-most g from most (At x) s = s .within
+value-most g from most Nothing s = omega arith
+
 module _ (rows : List Task) (t : Task) where
   -- what the window says
   says : Says (demand rows t) 1 16777215 (window rows t)
@@ -20,12 +26,8 @@ module _ (rows : List Task) (t : Task) where
 
   -- it is at most the limit
   pub length-small : windowLength rows t ≤ 16777215
-  unfolding windowLength value
-  length-small = of (window rows t) says
-    where
-      of : (a : Found) → Says (demand rows t) 1 16777215 a → value a ≤ 16777215
-      of (At x) s = s .within
-      of Nothing s = omega arith
+  unfolding windowLength
+  length-small = value-most (demand rows t) 1 16777215 (window rows t) says
 
   -- a row whose length is 0 has no window
   pub zero-lacks : windowLength rows t ≡ 0 → lacks rows t ≡ true

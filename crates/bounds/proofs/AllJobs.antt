@@ -113,13 +113,7 @@ module _ {own-first preempts : List ℕ} {own : Own} {times : List ℕ} (g : Own
     -- the job's work fits in the window
     pub base-small : jobAt own-first preempts own times j .base + getD own-first 1 0 ≤ 16777215
     base-small =
-        omega (
-          arith,
-          base-is j,
-          own-cost,
-          inside rows core t row (own .window) (g .windowed) j (omega (arith, count-is)),
-          window-small,
-        )
+        omega (arith, base-is j, own-cost, inside rows core t row (own .window) (g .windowed) j (omega (arith, count-is)), window-small)
 
   -- a job that is released in the window is looked at
   pub job-in-window : (j : ℕ) → jobAt own-first preempts own times j .release < own .window → j < up (own .window) (getD own-first 0 0)

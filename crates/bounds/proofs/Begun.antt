@@ -14,7 +14,7 @@ use Rattle.model.specs.declared.Found.the-variants.{At}
 use Rattle.model.specs.Task.{Task, cost, part, partsBefore}
 use Rattle.model.specs.Least.{least, value, IsLeast}
 use Rattle.model.proofs.Ranges.{CooperativeRange}
-use Rattle.model.specs.Bounds.{limit, preemptive, cooperative, before, through, higher, blocking, start, endFrom}
+use Rattle.model.specs.Bounds.{limit, preemptive, before, through, higher, blocking, start, endFrom}
 use Rattle.model.proofs.Least.{least-at, least-same}
 use Rattle.model.proofs.Climb.{under-shift}
 use Rattle.model.proofs.Rounding.{before-suc, through-before}
@@ -37,13 +37,9 @@ module _ {highers preempts : List ℕ} {base from time : ℕ} (a : AtPart higher
   open AtPart a using (seen, j, r)
   open Seen seen using (rows, t, L, core, row, windowed)
 
-  -- the row is cooperative
-  kind : cooperative t ≡ true
-  kind = sym (seen .kind)
-
   -- its start and its end exist
   range : CooperativeRange rows t L r j
-  range = cooperative-range rows core t row L windowed r j (a .within) (a .inside) kind
+  range = cooperative-range rows core t row L windowed r j (a .within) (a .inside) (sym (seen .kind))
 
   open CooperativeRange range using (s, f)
 
@@ -88,7 +84,7 @@ module _ {highers preempts : List ℕ} {base from time : ℕ} (a : AtPart higher
         arith,
         preemptive-work a (suc s),
         total-wider preemptive (λ u. ltb (t .priority) (u .priority)) (λ u. before u (suc s) * cost u) rows
-            (λ u m p. lt-ltb _ _ (preemptive-higher rows core t row kind u m p)),
+            (λ u m p. lt-ltb _ _ (preemptive-higher rows core t row (sym (seen .kind)) u m p)),
         least-at _ 0 limit (range .starts) .solves,
         next-work s,
       )
@@ -142,7 +138,7 @@ module _ {highers preempts : List ℕ} {base from time : ℕ} (a : AtPart higher
   cooperative-found =
       rw ended
       record {
-        ends = finish-cooperative rows t r j kind ∙ ap (endFrom rows t r j) (range .starts) ∙ range .ends;
+        ends = finish-cooperative rows t r j (sym (seen .kind)) ∙ ap (endFrom rows t r j) (range .starts) ∙ range .ends;
         warm =
             subst (λ (b : ℕ). Warm rows t b (s + time)) (omega (arith, time-pos a))
             (subst (Warm rows t (base + 1 + (time - 1))) (omega (arith, time-pos a)) later);

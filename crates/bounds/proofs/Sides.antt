@@ -7,7 +7,7 @@ use mathlib.Core.Logic.{⊎-elim}
 use native.Mathlib.Nat.{le-refl, le-trans, add-le-add, mul-le-mul, mul-le-mul-right, suc-mul, le-div-iff-mul-le}
 use native.Mathlib.Numerals.{add-one}
 use native.Mathlib.Omega.{arith}
-use lib.ListN.{length, getD, drop, drop-of-length-le}
+use lib.ListN.{length, getD, drop, length-append, drop-of-length-le}
 use lib.Dec.{ltb}
 use borrow.Author.Tests.{le-ltb}
 use lib.Seq.{drop-cons}
@@ -21,7 +21,7 @@ use Rattle.model.proofs.Climb.{Mono}
 use Rattle.model.proofs.Rounding.{up-is, up-mono, up-small, before-is}
 use Rattle.model.proofs.Rows.{higher-in}
 use Rattle.model.proofs.Parts.{cost-most}
-use Rattle.bounds.specs.Loads.{loads, InRange, Summable, workAt, side}
+use Rattle.bounds.specs.Loads.{load, loads, InRange, Summable, workAt, side}
 
 -- one turn of a sum over the rows, as the code works it out
 pub record Turn (rows : List ℕ) (x sum i : ℕ) : Type 0 where
@@ -61,12 +61,7 @@ work-le [] x r = omega arith
 work-le (t ∷ []) x r = absurd r
 work-le (t ∷ c ∷ more) x r =
     let one : up x t * c ≤ x * 1073741760 = mul-le-mul (up-small x t (r .0)) (r .1) in
-    omega (
-      arith,
-      work-le more x (r .2),
-      suc-mul (suc (length more)) (x * 1073741760),
-      suc-mul (length more) (x * 1073741760),
-    )
+    omega (arith, work-le more x (r .2), suc-mul (suc (length more)) (x * 1073741760), suc-mul (length more) (x * 1073741760))
 
 -- rows in range: their work fits in 61 bits
 pub work-fits : (rows : List ℕ) (x : ℕ) → Summable rows → x ≤ 16777215 → workAt rows x ≤ 2305842871774740480
@@ -92,11 +87,11 @@ unfolding workAt total each
 work-loads [] x = refl
 work-loads (u ∷ us) x = omega (arith, ap (λ (n : ℕ). n * cost u) (before-is u x), work-loads us x)
 
--- two numbers for each row
-loads-length : (us : List Task) → length (loads us) ≡ 2 * length us
+-- where each gives two numbers, all give twice as many
+pub pairs-length : {A : Type 0} (f : A → List ℕ) → ((x : A) → length (f x) ≡ 2) → (xs : List A) → length (each f xs) ≡ 2 * length xs
 unfolding each
-loads-length [] = refl
-loads-length (u ∷ us) = omega (arith, loads-length us)
+pairs-length f two [] = refl
+pairs-length f two (x ∷ xs) = omega (arith, two x, length-append (f x) (each f xs), pairs-length f two xs)
 
 -- good rows are in range
 loads-ranged : (us : List Task) → ((u : Task) → u ∈ us → GoodTask u) → InRange (loads us)
@@ -108,7 +103,7 @@ loads-ranged (u ∷ us) good =
 
 -- few good rows can be summed
 pub summable-of : (us : List Task) → length us ≤ 64 → ((u : Task) → u ∈ us → GoodTask u) → Summable (loads us)
-summable-of us few good = record { few = omega (arith, loads-length us); ranged = loads-ranged us good }
+summable-of us few good = record { few = omega (arith, pairs-length load (λ u. refl) us); ranged = loads-ranged us good }
 
 -- so can those kept of a core's rows
 pub summable-keep : (rows : List Task) → GoodCore rows → (p : Task → Bool) → Summable (loads (keep p rows))

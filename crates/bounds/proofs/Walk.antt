@@ -9,7 +9,7 @@ use Rattle.model.specs.declared.Found.the-variants.{At}
 use Rattle.model.specs.Task.{cost, partsBefore}
 use Rattle.model.specs.Least.{value, IsLeast}
 use Rattle.model.proofs.Ranges.{PreemptiveRange}
-use Rattle.model.specs.Bounds.{limit, preemptive, cooperative, higher, preemptiveEnd, finish}
+use Rattle.model.specs.Bounds.{limit, preemptive, higher, preemptiveEnd, finish}
 use Rattle.model.proofs.Least.{least-at, least-same}
 use Rattle.model.proofs.Climb.{under-shift, under-least, least-under}
 use Rattle.model.proofs.Parts.{parts-suc, part-fits, part-pos}
@@ -54,13 +54,7 @@ module _ {highers preempts : List ℕ} {coop : Bool} {base from time : ℕ} (a :
   -- what is before the part and the part fit in the window, with the higher rows' work
   fits : base + time + work (higher rows t) L ≤ L
   fits =
-      omega (
-        arith,
-        a .timed,
-        a .done,
-        part-fits t (core .good t row) r,
-        inside rows core t row L windowed j (a .inside),
-      )
+      omega (arith, a .timed, a .done, part-fits t (core .good t row) r, inside rows core t row L windowed j (a .inside))
 
   -- the window is at most the limit
   pub window-small : L ≤ 16777215
@@ -98,17 +92,13 @@ module _ {highers preempts : List ℕ} {base from time : ℕ} (a : AtPart higher
   open AtPart a using (seen, j, r)
   open Seen seen using (rows, t, L, core, row, windowed)
 
-  -- a row that is not cooperative
-  kind : cooperative t ≡ false
-  kind = sym (seen .kind)
-
   -- its end exists
   range : PreemptiveRange rows t L r j
-  range = preemptive-range rows core t row L windowed r j (a .within) (a .inside) kind
+  range = preemptive-range rows core t row L windowed r j (a .within) (a .inside) (sym (seen .kind))
 
   -- its equation is the search's
   sides : (z : ℕ) → work (higher rows t) z + j * cost t + partsBefore t (suc r) ≡ base + time + work (higher rows t) z
-  sides z = omega (arith, a .done, a .timed, parts-suc t r, no-blocking rows t kind)
+  sides z = omega (arith, a .done, a .timed, parts-suc t r, no-blocking rows t (sym (seen .kind)))
 
   -- so it is the least solution that the search looks for
   the-end : IsLeast (λ z. base + time + work (higher rows t) z) 0 limit (range .f)
@@ -127,4 +117,4 @@ module _ {highers preempts : List ℕ} {base from time : ℕ} (a : AtPart higher
   unfolding endOfPart
   preemptive-found =
       rw (solved a time (range .f) the-end)
-      record { ends = finish-preemptive rows t r j kind ∙ range .ends; warm = reached a time (range .f) the-end }
+      record { ends = finish-preemptive rows t r j (sym (seen .kind)) ∙ range .ends; warm = reached a time (range .f) the-end }

@@ -4,22 +4,17 @@ use native.Mathlib.Omega.{arith}
 use borrow.Author.Tests.{le-ltb}
 use mathlib.Core.Path.{_≡_, refl}
 use mathlib.Core.Bool.{true, false}
-use mathlib.Core.List.{List, [], _∷_, _++_}
+use mathlib.Core.List.{List, _∷_, _++_}
 use lib.ListN.{length}
 use Rattle.lists.specs.Lists.{keep, each}
 use Rattle.lists.proofs.Keep.{keep-length, keep-fewer}
 use Rattle.lists.proofs.Walks.{get-in}
+use Rattle.bounds.proofs.Sides.{pairs-length}
 use Rattle.cores.specs.declared.Asked.{Asked}
 use Rattle.cores.specs.declared.Which.{Which}
 use Rattle.cores.specs.declared.Which.the-variants.{Above}
 use Rattle.cores.specs.Cores.{askedNothing}
 use Rattle.cores.specs.Promises.{isWanted, askedLoad, wantedLoads, askedAt, ownFirst}
-
--- each row gives two numbers
-pub loads-length : (rows : List Asked) → length (each askedLoad rows) ≡ 2 * length rows
-unfolding each
-loads-length [] = refl
-loads-length (a ∷ rows) = omega (arith, loads-length rows)
 
 module _ (which : Which) (a : Asked) (rows : List Asked) where
   -- a row that is wanted gives its numbers first
@@ -40,9 +35,9 @@ own-most rows i h =
     let higher = isWanted (Above (a .priority)) in
     let fewer : length (keep higher rows) < length rows
     = keep-fewer higher rows a (get-in askedNothing rows i h) (le-ltb (a .priority) (a .priority) (omega arith)) in
-    omega (arith, loads-length (a ∷ keep higher rows))
+    omega (arith, pairs-length askedLoad (λ x. refl) (a ∷ keep higher rows))
 
 -- two numbers at most of each of some rows
 pub wanted-most : (which : Which) (rows : List Asked) → length (wantedLoads which rows) ≤ 2 * length rows
 wanted-most which rows =
-    omega (arith, loads-length (keep (isWanted which) rows), keep-length (isWanted which) rows)
+    omega (arith, pairs-length askedLoad (λ x. refl) (keep (isWanted which) rows), keep-length (isWanted which) rows)

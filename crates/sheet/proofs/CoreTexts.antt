@@ -25,6 +25,7 @@ use Rattle.cores.specs.Promises.{IsCore}
 use Rattle.analysis.specs.declared.Analysed.{Analysed}
 use Rattle.analysis.specs.Analysis.{needed, coreBounds, named, roomSaid, coreSaid, writes, roomAfter, Gives}
 use Rattle.analysis.proofs.Given.{answered-verdict}
+use Rattle.analysis.proofs.BoundsPut.{bounds-long}
 use Rattle.sheet.specs.Sheet.{boundLine, rowLines, coreTextOf, coreText}
 use Rattle.sheet.specs.Promises.{rowText, rowsText, coreBytes, BoundsFor}
 
@@ -41,18 +42,15 @@ row-same core rows t =
 
 -- the bounds of a row of the core stand in front
 module _ (rows : List Task) (t : Task) (others rest : List ℕ) where
-  -- as many as it has parts
-  own-length : length (rowBounds rows t) ≡ length (t .times)
-  unfolding rowBounds parts
-  own-length = listed-length (bound rows t) (parts t)
-
   -- they are the first
   own-front : take (length (t .times)) (rowBounds rows t ++ others ++ rest) ≡ rowBounds rows t
-  own-front = rw append-assoc (take-at (rowBounds rows t) (others ++ rest) (length (t .times)) own-length)
+  unfolding parts
+  own-front = rw append-assoc (take-at (rowBounds rows t) (others ++ rest) (length (t .times)) (bounds-long rows t))
 
   -- and those of the others come next
   own-behind : drop (length (t .times)) (rowBounds rows t ++ others ++ rest) ≡ others ++ rest
-  own-behind = rw append-assoc (drop-at (rowBounds rows t) (others ++ rest) (length (t .times)) own-length)
+  unfolding parts
+  own-behind = rw append-assoc (drop-at (rowBounds rows t) (others ++ rest) (length (t .times)) (bounds-long rows t))
 
 -- the lines of rows, from their bounds, whatever stands behind them
 lines-same : (core : ℕ) (rows ts : List Task) (rest : List ℕ)
@@ -110,7 +108,8 @@ module _ {c : Core} (k : IsCore c) where
 
   -- what is printed from them is the text of the core
   pub text-is : (t : Table) (core : ℕ) → core ≤ 3 → tasksIn c ≡ onCore core (tasksOf t)
-      → {bounds : List ℕ} {a : Analysed} {bounds′ : List ℕ} → length bounds ≡ 1024 → Gives (roomSaid (tasksIn c) (length bounds)) (tasksIn c) bounds a bounds′
+      → {bounds : List ℕ} {a : Analysed} {bounds′ : List ℕ} → length bounds ≡ 1024
+      → Gives (roomSaid (tasksIn c) (length bounds)) (tasksIn c) bounds a bounds′
       → coreBytes core (usedRows (c .own)) bounds′ (a .verdict) ≡ coreText (tasksOf t) core
   unfolding coreText roomSaid
   text-is t core small own {bounds} {a} {bounds′} long gives =

@@ -16,7 +16,6 @@ use Rattle.model.specs.Rows.{GoodTask}
 use Rattle.table.specs.declared.Verdict.the-variants.{Good}
 use Rattle.table.specs.Verdicts.{codeOf}
 use Rattle.table.specs.Memory.{zeroRow, rowOf, allTimes, stored, tasksOf}
-use Rattle.table.specs.Faults.{faultOf}
 use Rattle.table.proofs.ReadingCodes.{refused-not-0}
 use Rattle.table.proofs.Stored.{tasks-stored}
 use Rattle.table.proofs.GoodTasks.{GoodTasks, times-fit, stored-good}
@@ -59,17 +58,6 @@ module _ (s : List ℕ) (l : Loaded) (e : l ≡ readAnswer s) where
   pub good-text : codeOf (l .verdict) ≡ 0 → sheetText s ≡ goodText (tasksOf (l .table))
   unfolding textFrom
   good-text z = text-from s ∙ ap textFrom (sym e) ∙ rw (eq-eqb (codeOf (l .verdict)) 0 z)
-
-  -- whose table has no fault
-  pub good-table : codeOf (l .verdict) ≡ 0 → codeOf (faultOf (l .table)) ≡ 0
-  unfolding readAnswer
-  good-table z = of-step (decode s) refl
-    where
-      of-step : (x : Step (List Task)) → decode s ≡ x → codeOf (faultOf (l .table)) ≡ 0
-      of-step (stop v) q =
-          let own : l .verdict ≡ v = ap (λ (x : Loaded). x .verdict) (e ∙ ap loaded q) in
-          absurd (refused-not-0 v (stop-fault s v q) (sym (ap codeOf own) ∙ z))
-      of-step (go ts n) q = ap (λ (x : Loaded). codeOf (faultOf (x .table))) (e ∙ ap loaded q) ∙ stored-good ts (file-back s ts n q .good)
 
 -- a longer file is read as its first 5,124 bytes are, so it prints the same
 pub sheet-of-the-front : SheetOfTheFront

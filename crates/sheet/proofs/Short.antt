@@ -12,7 +12,7 @@ use Rattle.lists.proofs.Listed.{listed-length}
 use Rattle.lists.proofs.Counted.{counted-below, total-ones, each-short}
 use Rattle.model.specs.declared.Found.{Found}
 use Rattle.model.specs.declared.Found.the-variants.{At, Nothing}
-use Rattle.model.specs.Least.{least, value, maxBelow, Says}
+use Rattle.model.specs.Least.{least, value, maxBelow}
 use Rattle.model.specs.Task.{Task, parts}
 use Rattle.model.specs.Rows.{GoodTask}
 use Rattle.model.specs.Bounds.{onCore, limit, cooperative, preemptiveEnd, start, endFrom, finish, response, bound, jobs}
@@ -26,6 +26,7 @@ use Rattle.table.specs.declared.Verdict.the-variants.{KindsCrossed, TooManyTime
 use Rattle.table.specs.Verdicts.{codeOf, numberOf}
 use Rattle.table.specs.Memory.{allTimes}
 use Rattle.analysis.specs.Analysis.{needed, named}
+use Rattle.analysis.proofs.Lengths.{value-most}
 use Rattle.text.specs.Text.{decimal, line}
 use Rattle.sheet.specs.Sheet.{boundLine, coreLine, fileLine, header, partLine, rowLines, coreTextOf, coreText, goodText}
 use Rattle.text.proofs.Decimals.{decimal-short}
@@ -33,15 +34,9 @@ use Rattle.sheet.proofs.CoreTexts.{said-is}
 
 -- ---- a bound is at most the limit
 
--- what is found is
-value-most : (g : ℕ → ℕ) (from : ℕ) (x : Found) → Says g from limit x → value x ≤ limit
-unfolding value
-value-most g from (At x) s = s .within
-value-most g from Nothing s = omega arith
-
--- so is the least solution
+-- the least solution is
 least-most : (g : ℕ → ℕ) (from : ℕ) → value (least g from limit) ≤ limit
-least-most g from = value-most g from (least g from limit) (least-says g from limit)
+least-most g from = value-most g from limit (least g from limit) (least-says g from limit)
 
 -- so is the largest of some
 max-most : (h : ℕ → ℕ) (n m : ℕ) → ((k : ℕ) → h k ≤ m) → maxBelow h n ≤ m

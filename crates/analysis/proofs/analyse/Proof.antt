@@ -5,15 +5,6 @@ use Rattle.analysis.proofs.Tabled.{read-faultless, unread, as-table}
 use Rattle.analysis.proofs.analyse.Statement.{statement}
 use Rattle.analysis.proofs.analyse.Tie as tie
 
-read-requires : tie.Need-read-requires
-read-requires c κs = search needs
-
-code-of-requires : tie.Need-code-of-requires
-code-of-requires c κs = search needs
-
-refused-requires : tie.Need-refused-requires
-refused-requires c κs = search needs
-
 returns : tie.Need-returns
 returns c =
     let code = c .before .before in
@@ -23,9 +14,6 @@ analyse-good-requires : tie.Need-analyse-good-requires
 analyse-good-requires c κs =
     let fine = c .before .before in
     read-faultless _ _ (fine .before .before .read .ensures) (sym (fine .before .code-of .ensures) ∙ fine .if1 .left)
-
-same-length : tie.Need-same-length
-same-length c = search needs
 
 returns-2 : tie.Need-returns-2
 returns-2 c =
@@ -38,10 +26,10 @@ pub analyse-spec : {M : Type 1} → statement M
 analyse-spec =
     tie.close
     (tie.spec
-    read-requires
-    code-of-requires
-    refused-requires
+    (λ c κs. search needs)
+    (λ c κs. search needs)
+    (λ c κs. search needs)
     returns
     analyse-good-requires
-    same-length
+    (λ c. search needs)
     returns-2)

@@ -4,14 +4,13 @@ use native.Mathlib.Omega.{arith}
 use borrow.Author.Needs.{needs}
 use borrow.Author.Tests.{lt-ltb, le-ltb}
 use mathlib.Core.Path.{_≡_, refl, sym, ap, _∙_}
-use mathlib.Core.Bool.{true, false}
 use mathlib.Core.List.{List, map}
 use lib.ListN.{length, take, length-map}
 use Rattle.lists.specs.Lists.{over}
 use Rattle.lists.proofs.Overs.{take-over}
 use Rattle.model.specs.Task.{Task}
 use Rattle.model.specs.Bounds.{coreVerdict}
-use Rattle.table.specs.declared.Verdict.the-variants.{Good, NoRoom, NoWindow, Missed}
+use Rattle.table.specs.declared.Verdict.the-variants.{NoRoom}
 use Rattle.cores.specs.declared.Core.{Core}
 use Rattle.cores.specs.Cores.{tasksIn}
 use Rattle.cores.specs.Promises.{IsCore}
@@ -21,24 +20,6 @@ use Rattle.analysis.proofs.Said.{no-window, all-windows, missed, none-m
 use Rattle.analysis.proofs.Given.{gives-none, gives-all}
 use Rattle.analysis.proofs.analyse_core.Statement.{statement}
 use Rattle.analysis.proofs.analyse_core.Tie as tie
-
--- codes 10 and 11 write nothing
-room-writes : (n : ℕ) → writes (NoRoom n) ≡ false
-unfolding writes
-room-writes n = refl
-
-window-writes : (n : ℕ) → writes (NoWindow n) ≡ false
-unfolding writes
-window-writes n = refl
-
--- codes 0 and 12 write all bounds
-good-writes : writes Good ≡ true
-unfolding writes
-good-writes = refl
-
-missed-writes : (n : ℕ) → writes (Missed n) ≡ true
-unfolding writes
-missed-writes n = refl
 
 module _ {c : Core} (k : IsCore c) where
   -- the room that is needed is counted
@@ -71,37 +52,21 @@ module _ {c : Core} (k : IsCore c) where
         enough = omega (arith, parts-needed);
       }
 
-refused-requires : tie.Need-refused-requires
-refused-requires c κs = search needs
-
 returns : tie.Need-returns
+unfolding writes
 returns c =
     let k = c .before .before .before .pre in
-    gives-none _ _ _ _ (short k _ (c .before .if1 .taken)) (room-writes _) (c .refused .ensures)
-
-slice-aggregate-windows : tie.Need-slice-aggregate-windows
-slice-aggregate-windows c = search needs
-
-windows-requires : tie.Need-windows-requires
-windows-requires c κs = search needs
-
-cast-t12 : tie.Need-cast-t12
-cast-t12 c = search needs
-
-refused-requires-2 : tie.Need-refused-requires-2
-refused-requires-2 c κs = search needs
+    gives-none _ _ _ _ (short k _ (c .before .if1 .taken)) refl (c .refused .ensures)
 
 returns-2 : tie.Need-returns-2
+unfolding writes
 returns-2 c =
     let call = c .before .before .before in
     let some = call .before .before in
     let k = some .before .before .pre in
     gives-none _ _ _ _
     (enough k _ (some .if1 .left) ∙ no-window _ (k .good .good) _ (call .windows .ensures .names) (c .before .if2 .taken))
-    (window-writes _) (c .refused2 .ensures)
-
-slice-aggregate-core-bounds : tie.Need-slice-aggregate-core-bounds
-slice-aggregate-core-bounds c = search needs
+    refl (c .refused2 .ensures)
 
 core-bounds-requires : tie.Need-core-bounds-requires
 core-bounds-requires c κs =
@@ -110,13 +75,8 @@ core-bounds-requires c κs =
     let some = call .before .before in
     to-bound (some .before .before .pre) _ _ _ _ (call .windows .ensures) (none .if2 .left) (some .if1 .left)
 
-cast-t18 : tie.Need-cast-t18
-cast-t18 c = search needs
-
-same-length : tie.Need-same-length
-same-length c = search needs
-
 returns-3 : tie.Need-returns-3
+unfolding writes
 returns-3 c =
     let bounds = c .before .before .before in
     let none = bounds .before .before .before in
@@ -126,12 +86,10 @@ returns-3 c =
     let windows = all-windows _ (k .good .good) _ (call .windows .ensures .names) (none .if2 .left) in
     gives-all _ _ _ _
     (enough k _ (some .if1 .left) ∙ missed _ (k .good .good) _ windows (bounds .core-bounds .ensures .names) (c .if3 .taken))
-    (missed-writes _) _ _ (parts-needed k) (bounds .core-bounds .ensures .left)
-
-same-length-2 : tie.Need-same-length-2
-same-length-2 c = search needs
+    refl _ _ (parts-needed k) (bounds .core-bounds .ensures .left)
 
 returns-4 : tie.Need-returns-4
+unfolding writes
 returns-4 c =
     let bounds = c .before .before .before in
     let none = bounds .before .before .before in
@@ -141,23 +99,23 @@ returns-4 c =
     let windows = all-windows _ (k .good .good) _ (call .windows .ensures .names) (none .if2 .left) in
     gives-all _ _ _ _
     (enough k _ (some .if1 .left) ∙ none-missed _ (k .good .good) _ windows (bounds .core-bounds .ensures .names) (c .if3 .left))
-    good-writes _ _ (parts-needed k) (bounds .core-bounds .ensures .left)
+    refl _ _ (parts-needed k) (bounds .core-bounds .ensures .left)
 
 pub analyse-core-spec : {M : Type 1} → statement M
 analyse-core-spec =
     tie.close
     (tie.spec
-    refused-requires
+    (λ c κs. search needs)
     returns
-    slice-aggregate-windows
-    windows-requires
-    cast-t12
-    refused-requires-2
+    (λ c. search needs)
+    (λ c κs. search needs)
+    (λ c. search needs)
+    (λ c κs. search needs)
     returns-2
-    slice-aggregate-core-bounds
+    (λ c. search needs)
     core-bounds-requires
-    cast-t18
-    same-length
+    (λ c. search needs)
+    (λ c. search needs)
     returns-3
-    same-length-2
+    (λ c. search needs)
     returns-4)

@@ -1,38 +1,18 @@
 -- `analysis::analyse_good` meets its contract: 9, or what the rows of the core say. Assumes nothing.
 use borrow.Author.Needs.{needs}
-use mathlib.Core.Path.{_≡_, sym, subst}
-use lib.ListN.{length}
-use Rattle.cores.specs.Promises.{IsCore}
 use Rattle.cores.proofs.GoodCores.{core-of-good}
 use Rattle.table.proofs.Rows.{length-mapped}
 use Rattle.analysis.proofs.Tabled.{no-core, some-core}
 use Rattle.analysis.proofs.analyse_good.Statement.{statement}
 use Rattle.analysis.proofs.analyse_good.Tie as tie
 
--- the rows of a table in memory, by its type
-rows-there : (c : tie.Start) → length (c .args .t .rows) ≡ 64
-rows-there c = search (needs, length-mapped)
-
--- and its times
-times-there : (c : tie.Start) → length (c .args .t .times) ≡ 1024
-times-there c = search needs
-
-refused-requires : tie.Need-refused-requires
-refused-requires c κs = search needs
-
 returns : tie.Need-returns
 returns c = no-core _ _ _ (c .before .if1 .taken) (c .refused .ensures)
-
-core-of-requires : tie.Need-core-of-requires
-core-of-requires c κs = search needs
 
 analyse-core-requires : tie.Need-analyse-core-requires
 analyse-core-requires c κs =
     let s = c .before .before .before .before in
-    subst IsCore (sym (c .before .core-of .ensures)) (core-of-good (s .args .t) (rows-there s) (times-there s) (s .pre) (s .args .core))
-
-same-length : tie.Need-same-length
-same-length c = search needs
+    core-of-good (s .args .t) (search (needs, length-mapped)) (search needs) (s .pre) (s .args .core) (c .before .core-of .ensures)
 
 returns-2 : tie.Need-returns-2
 returns-2 c =
@@ -44,9 +24,9 @@ pub analyse-good-spec : {M : Type 1} → statement M
 analyse-good-spec =
     tie.close
     (tie.spec
-    refused-requires
+    (λ c κs. search needs)
     returns
-    core-of-requires
+    (λ c κs. search needs)
     analyse-core-requires
-    same-length
+    (λ c. search needs)
     returns-2)

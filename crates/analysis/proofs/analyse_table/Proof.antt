@@ -11,15 +11,6 @@ use Rattle.analysis.proofs.analyse_table.Tie as tie
 fault-free : (c : tie.Else1) → codeOf (faultOf (c .before .before .before .before .args .t)) ≡ 0
 fault-free c = sym (ap codeOf (c .before .before .fault-of .ensures)) ∙ (sym (c .before .code-of .ensures) ∙ c .if1 .left)
 
-fault-of-requires : tie.Need-fault-of-requires
-fault-of-requires c κs = search needs
-
-code-of-requires : tie.Need-code-of-requires
-code-of-requires c κs = search needs
-
-refused-requires : tie.Need-refused-requires
-refused-requires c κs = search needs
-
 returns : tie.Need-returns
 returns c =
     let code = c .before .before in
@@ -27,9 +18,6 @@ returns c =
 
 analyse-good-requires : tie.Need-analyse-good-requires
 analyse-good-requires c κs = fault-free (c .before)
-
-same-length : tie.Need-same-length
-same-length c = search needs
 
 returns-2 : tie.Need-returns-2
 returns-2 c =
@@ -40,10 +28,10 @@ pub analyse-table-spec : {M : Type 1} → statement M
 analyse-table-spec =
     tie.close
     (tie.spec
-    fault-of-requires
-    code-of-requires
-    refused-requires
+    (λ c κs. search needs)
+    (λ c κs. search needs)
+    (λ c κs. search needs)
     returns
     analyse-good-requires
-    same-length
+    (λ c. search needs)
     returns-2)

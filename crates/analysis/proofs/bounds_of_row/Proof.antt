@@ -36,35 +36,11 @@ kind-is asked count own long times b =
 blocking-of-requires : tie.Need-blocking-of-requires
 blocking-of-requires c κs = own-below (c .before .before .pre .0 .at)
 
-slice-aggregate-own-first : tie.Need-slice-aggregate-own-first
-slice-aggregate-own-first c = search needs
-
 own-first-requires : tie.Need-own-first-requires
 own-first-requires c κs = (own-below (c .before .before .before .before .pre .0 .at), search needs)
 
-slice-aggregate-preemptive-loads : tie.Need-slice-aggregate-preemptive-loads
-slice-aggregate-preemptive-loads c = search needs
-
 preemptive-loads-requires : tie.Need-preemptive-loads-requires
 preemptive-loads-requires c κs = (own-below (entry (c .before .before) .pre .0 .at) .1, search needs)
-
-mul-row : tie.Need-mul-row
-mul-row c = omega (arith, own-below (entry (c .before .before .before .before) .pre .0 .at))
-
-array-copy-out-row : tie.Need-array-copy-out-row
-array-copy-out-row c = omega (arith, own-below (entry (c .before .before .before .before) .pre .0 .at))
-
-array-share-prefix-loads : tie.Need-array-share-prefix-loads
-array-share-prefix-loads c = fit (c .before .before .before .before .before .before)
-
-slice-aggregate-row-bounds : tie.Need-slice-aggregate-row-bounds
-slice-aggregate-row-bounds c = sym (length-take-le _ _ (fit (c .before .before .before .before .before .before .before)))
-
-array-share-prefix-preemptive : tie.Need-array-share-prefix-preemptive
-array-share-prefix-preemptive c = pre-fit (c .before .before .before .before)
-
-slice-aggregate-row-bounds-2 : tie.Need-slice-aggregate-row-bounds-2
-slice-aggregate-row-bounds-2 c = sym (length-take-le _ _ (pre-fit (c .before .before .before .before .before)))
 
 row-bounds-requires : tie.Need-row-bounds-requires
 row-bounds-requires c κs =
@@ -75,9 +51,6 @@ row-bounds-requires c κs =
           (first .before .before .blocking-of .ensures),
       b .1,
     )
-
-same-length : tie.Need-same-length
-same-length c = search needs
 
 returns : tie.Need-returns
 returns c =
@@ -94,16 +67,16 @@ bounds-of-row-spec =
     tie.close
     (tie.spec
     blocking-of-requires
-    slice-aggregate-own-first
+    (λ c. search needs)
     own-first-requires
-    slice-aggregate-preemptive-loads
+    (λ c. search needs)
     preemptive-loads-requires
-    mul-row
-    array-copy-out-row
-    array-share-prefix-loads
-    slice-aggregate-row-bounds
-    array-share-prefix-preemptive
-    slice-aggregate-row-bounds-2
+    (λ c. omega (arith, own-below (entry (c .before .before .before .before) .pre .0 .at)))
+    (λ c. omega (arith, own-below (entry (c .before .before .before .before) .pre .0 .at)))
+    (λ c. fit (c .before .before .before .before .before .before))
+    (λ c. sym (length-take-le _ _ (fit (c .before .before .before .before .before .before .before))))
+    (λ c. pre-fit (c .before .before .before .before))
+    (λ c. sym (length-take-le _ _ (pre-fit (c .before .before .before .before .before))))
     row-bounds-requires
-    same-length
+    (λ c. search needs)
     returns)

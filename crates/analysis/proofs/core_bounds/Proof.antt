@@ -1,6 +1,5 @@
 -- `analysis::core_bounds` meets its contract: the bounds of the rows seen stand in front, and the highest late row is kept.
 use Prim.Native.Nat.{ℕ, _+_, _-_, _≤_, _<_}
-use native.Mathlib.Nat.{le-refl}
 use native.Mathlib.Omega.{arith}
 use borrow.Author.Needs.{needs}
 use mathlib.Core.Path.{_≡_, refl, sym, _∙_}
@@ -34,7 +33,7 @@ times-there c = search needs
 
 module _ (c : tie.In-loop Inv-loop μ-loop) where
   -- the row's part count, as the code reads it
-  count : ℕ
+  abbrev count : ℕ
   count = getD (called (c .before) .args .c .own .rows) (c .before .loop .i) zeroRow .parts
 
   -- row i is one of at most 64
@@ -43,122 +42,52 @@ module _ (c : tie.In-loop Inv-loop μ-loop) where
 
   -- its times have their place
   times-fit : c .before .loop .a + count ≤ 1024
-  unfolding count
-  times-fit = coming (called (c .before) .pre) (c .before .loop .inv) (le-refl _) (c .loop-test .taken) .room
+  times-fit = coming (called (c .before) .pre) (c .before .loop .inv) (c .loop-test .taken) .room
 
   -- so have its bounds
   room-fit : c .before .loop .a + count ≤ length (c .before .loop .room)
-  unfolding count
   room-fit =
       let b = called (c .before) .pre in
       let s = c .before .loop .inv in
-      omega (arith, bounds-fit b s (le-refl _) (c .loop-test .taken), room-long b s (le-refl _))
+      omega (arith, bounds-fit b s (c .loop-test .taken), room-long b s)
 
   -- it has a part
   some : 1 ≤ count
-  unfolding count
-  some = parts-some (called (c .before) .pre) (c .before .loop .inv) (le-refl _) (c .loop-test .taken)
-
--- the room after the row's bounds are put there
-room-after : (c : tie.After-bounds-of-row Inv-loop μ-loop)
-    → turn c .before .loop .a + count (turn c) - 1 < length (called (turn c .before) .args .room .now)
-unfolding count
-room-after c =
-    let l = turn c .before in omega (arith, room-fit (turn c), some (turn c), room-long (called l .pre) (l .loop .inv) (le-refl _))
+  some = parts-some (called (c .before) .pre) (c .before .loop .inv) (c .loop-test .taken)
 
 loop-holds : tie.Need-loop-holds Inv-loop μ-loop
-loop-holds c = none-put (c .before .before .before .before .before .pre) _
-
-mul-row : tie.Need-mul-row Inv-loop μ-loop
-mul-row c = omega (arith, few c)
-
-element-copy-out-row : tie.Need-element-copy-out-row Inv-loop μ-loop
-element-copy-out-row c = few c
-
-cast-e : tie.Need-cast-e Inv-loop μ-loop
-cast-e c = search needs
-
-add-e : tie.Need-add-e Inv-loop μ-loop
-unfolding count
-add-e c = omega (arith, times-fit (c .before .before))
-
-mul-bounds-of-row : tie.Need-mul-bounds-of-row Inv-loop μ-loop
-mul-bounds-of-row c = omega (arith, few (c .before .before))
+loop-holds c = none-put (c .before .before .before .before .before .pre)
 
 shared-slice-read-bounds-of-row : tie.Need-shared-slice-read-bounds-of-row Inv-loop μ-loop
 shared-slice-read-bounds-of-row c =
     let l = c .before .before .before in
-    window-there (called (l .before) .pre) (l .before .loop .inv) (le-refl _) (l .loop-test .taken)
-
-mul-bounds-of-row-2 : tie.Need-mul-bounds-of-row-2 Inv-loop μ-loop
-unfolding count
-mul-bounds-of-row-2 c = omega (arith, times-fit (c .before .before .before))
-
-sub-bounds-of-row : tie.Need-sub-bounds-of-row Inv-loop μ-loop
-unfolding count
-sub-bounds-of-row c = omega (arith, times-fit (c .before .before .before))
+    window-there (called (l .before) .pre) (l .before .loop .inv) (l .loop-test .taken)
 
 part-bounds-of-row-start : tie.Need-part-bounds-of-row-start Inv-loop μ-loop
-unfolding count
 part-bounds-of-row-start c =
     let l = c .before .before .before .before in omega (arith, times-fit l, times-there (called (l .before)))
 
 part-bounds-of-row-end : tie.Need-part-bounds-of-row-end Inv-loop μ-loop
-unfolding count
 part-bounds-of-row-end c =
     let l = c .before .before .before .before in omega (arith, times-fit l, times-there (called (l .before)))
 
-mul-bounds-of-row-3 : tie.Need-mul-bounds-of-row-3 Inv-loop μ-loop
-unfolding count
-mul-bounds-of-row-3 c = omega (arith, times-fit (c .before .before .before .before .before))
-
-sub-bounds-of-row-2 : tie.Need-sub-bounds-of-row-2 Inv-loop μ-loop
-unfolding count
-sub-bounds-of-row-2 c = omega (arith, times-fit (c .before .before .before .before .before))
-
-part-bounds-of-row-start-2 : tie.Need-part-bounds-of-row-start-2 Inv-loop μ-loop
-unfolding count
-part-bounds-of-row-start-2 c = omega (arith, room-fit (c .before .before .before .before .before))
-
-part-bounds-of-row-end-2 : tie.Need-part-bounds-of-row-end-2 Inv-loop μ-loop
-unfolding count
-part-bounds-of-row-end-2 c = omega (arith, room-fit (c .before .before .before .before .before))
-
 bounds-of-row-requires : tie.Need-bounds-of-row-requires Inv-loop μ-loop
-unfolding count
 bounds-of-row-requires c κs =
     let l = c .before .before .before .before .before .before in
     let times : l .before .loop .a + count l ≤ length (called (l .before) .args .c .own .times)
     = omega (arith, times-fit l, times-there (called (l .before))) in (
-      bounding (called (l .before) .pre) (l .before .loop .inv) (le-refl _) (l .loop-test .taken),
+      bounding (called (l .before) .pre) (l .before .loop .inv) (l .loop-test .taken),
       part-length _ _ _ (room-fit l) ∙ sym (part-length _ _ _ times),
     )
 
-sub-if1 : tie.Need-sub-if1 Inv-loop μ-loop
-unfolding count
-sub-if1 c = omega (arith, some (turn (c .before .before)))
-
-mul-if1 : tie.Need-mul-if1 Inv-loop μ-loop
-unfolding count
-mul-if1 c = omega (arith, times-fit (turn (c .before .before)))
-
 slice-read-if1 : tie.Need-slice-read-if1 Inv-loop μ-loop
-unfolding count
 slice-read-if1 c =
     let p = c .before .before .before in
     let l = turn p in
     let b = called (l .before) .pre in
-    let same = put-long b (l .before .loop .inv) (le-refl _) (l .loop-test .taken) _ (p .bounds-of-row .ensures) _ refl in
-    omega (arith, room-after p, same)
-
-higher-of-requires : tie.Need-higher-of-requires Inv-loop μ-loop
-higher-of-requires c κs = search needs
-
-add-i : tie.Need-add-i Inv-loop μ-loop
-add-i c = omega (arith, few (turn (c .before .before .before .before .before)))
-
-loop-less : tie.Need-loop-less Inv-loop μ-loop
-loop-less c = omega (arith, turn (c .before .before .before .before .before) .loop-test .taken)
+    let s = l .before .loop .inv in
+    let same = put-long b s (l .loop-test .taken) _ (p .bounds-of-row .ensures) _ refl in
+    omega (arith, room-fit l, some l, room-long b s, same)
 
 loop-again : tie.Need-loop-again Inv-loop μ-loop
 loop-again c =
@@ -168,14 +97,11 @@ loop-again c =
     let s = l .before .loop .inv in
     let inside = l .loop-test .taken in
     let put = p .bounds-of-row .ensures in
-    put-next b s (le-refl _) inside _ put _ refl _
+    put-next b s inside _ put _ refl _
     (⊎-elim
-    (λ w. w .2 ∙ late-next b s (le-refl _) inside _ put _ refl (w .0 .taken) _ (w .1 .ensures))
-    (λ w. w .1 ∙ early-next b s (le-refl _) inside _ put _ refl (w .0 .left))
+    (λ w. w .2 ∙ late-next b s inside _ put _ refl (w .0 .taken) _ (w .1 .ensures))
+    (λ w. w .1 ∙ early-next b s inside _ put _ refl (w .0 .left))
     (c .if1 .came))
-
-same-length : tie.Need-same-length Inv-loop μ-loop
-same-length c = room-long (called (c .before) .pre) (c .before .loop .inv) (le-refl _)
 
 returns : tie.Need-returns Inv-loop μ-loop
 returns c = all-put (called (c .before) .pre) (c .before .loop .inv) (c .loop-test .left)
@@ -187,27 +113,27 @@ core-bounds-spec =
     Inv-loop
     μ-loop
     loop-holds
-    mul-row
-    element-copy-out-row
-    cast-e
-    add-e
-    mul-bounds-of-row
+    (λ c. omega (arith, few c))
+    (λ c. few c)
+    (λ c. search needs)
+    (λ c. omega (arith, times-fit (c .before .before)))
+    (λ c. omega (arith, few (c .before .before)))
     shared-slice-read-bounds-of-row
-    mul-bounds-of-row-2
-    sub-bounds-of-row
+    (λ c. omega (arith, times-fit (c .before .before .before)))
+    (λ c. omega (arith, times-fit (c .before .before .before)))
     part-bounds-of-row-start
     part-bounds-of-row-end
-    mul-bounds-of-row-3
-    sub-bounds-of-row-2
-    part-bounds-of-row-start-2
-    part-bounds-of-row-end-2
+    (λ c. omega (arith, times-fit (c .before .before .before .before .before)))
+    (λ c. omega (arith, times-fit (c .before .before .before .before .before)))
+    (λ c. omega (arith, room-fit (c .before .before .before .before .before)))
+    (λ c. omega (arith, room-fit (c .before .before .before .before .before)))
     bounds-of-row-requires
-    sub-if1
-    mul-if1
+    (λ c. omega (arith, some (turn (c .before .before))))
+    (λ c. omega (arith, times-fit (turn (c .before .before))))
     slice-read-if1
-    higher-of-requires
-    add-i
-    loop-less
+    (λ c κs. search needs)
+    (λ c. omega (arith, few (turn (c .before .before .before .before .before))))
+    (λ c. omega (arith, turn (c .before .before .before .before .before) .loop-test .taken))
     loop-again
-    same-length
+    (λ c. room-long (called (c .before) .pre) (c .before .loop .inv))
     returns)

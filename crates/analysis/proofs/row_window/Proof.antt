@@ -47,25 +47,13 @@ answered c =
 blocking-of-requires : tie.Need-blocking-of-requires
 blocking-of-requires c κs = own-below (c .pre)
 
-slice-aggregate-own-first : tie.Need-slice-aggregate-own-first
-slice-aggregate-own-first c = search needs
-
 own-first-requires : tie.Need-own-first-requires
 own-first-requires c κs = (own-below (c .before .before .pre), search needs)
-
-array-share-prefix-loads : tie.Need-array-share-prefix-loads
-array-share-prefix-loads c = fit (c .before)
-
-slice-aggregate-window-of : tie.Need-slice-aggregate-window-of
-slice-aggregate-window-of c = sym (length-take-le _ _ (fit (c .before .before)))
 
 window-of-requires : tie.Need-window-of-requires
 window-of-requires c κs =
     let first = c .before .before in
     window-may (first .before .before .before .pre) (front first) (first .before .before .blocking-of .ensures)
-
-value-of-requires : tie.Need-value-of-requires
-value-of-requires c κs = search needs
 
 cast-result : tie.Need-cast-result
 cast-result c =
@@ -80,11 +68,11 @@ row-window-spec =
     tie.close
     (tie.spec
     blocking-of-requires
-    slice-aggregate-own-first
+    (λ c. search needs)
     own-first-requires
-    array-share-prefix-loads
-    slice-aggregate-window-of
+    (λ c. fit (c .before))
+    (λ c. sym (length-take-le _ _ (fit (c .before .before))))
     window-of-requires
-    value-of-requires
+    (λ c κs. search needs)
     cast-result
     returns)

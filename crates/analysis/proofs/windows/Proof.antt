@@ -38,27 +38,6 @@ row-window-requires c κs =
     let w = coming k (c .before .loop .inv) (c .loop-test .taken) in
     at-row k _ (w .0) (w .1)
 
-mul-out : tie.Need-mul-out Inv-loop μ-loop
-mul-out c = omega (arith, few (c .before))
-
-slice-write-out : tie.Need-slice-write-out Inv-loop μ-loop
-slice-write-out c = omega (arith, room (c .before), c .before .before .loop .inv .same)
-
-mul-row : tie.Need-mul-row Inv-loop μ-loop
-mul-row c = omega (arith, few (c .before .before))
-
-element-copy-out-row : tie.Need-element-copy-out-row Inv-loop μ-loop
-element-copy-out-row c = few (c .before .before)
-
-higher-of-requires : tie.Need-higher-of-requires Inv-loop μ-loop
-higher-of-requires c κs = search needs
-
-add-i : tie.Need-add-i Inv-loop μ-loop
-add-i c = omega (arith, few (c .before .before))
-
-loop-less : tie.Need-loop-less Inv-loop μ-loop
-loop-less c = omega (arith, c .before .before .loop-test .taken)
-
 loop-again : tie.Need-loop-again Inv-loop μ-loop
 loop-again c =
     let l = c .before .before in
@@ -72,9 +51,6 @@ loop-again c =
     (λ w. w .1 ∙ passed-next k s inside _ is (w .0 .left))
     (c .if1 .came))
 
-same-length : tie.Need-same-length Inv-loop μ-loop
-same-length c = c .before .loop .inv .same
-
 returns : tie.Need-returns Inv-loop μ-loop
 returns c = all-sought (called (c .before) .pre .0) (c .before .loop .inv) (c .loop-test .left)
 
@@ -86,13 +62,13 @@ windows-spec =
     μ-loop
     loop-holds
     row-window-requires
-    mul-out
-    slice-write-out
-    mul-row
-    element-copy-out-row
-    higher-of-requires
-    add-i
-    loop-less
+    (λ c. omega (arith, few (c .before)))
+    (λ c. omega (arith, room (c .before), c .before .before .loop .inv .same))
+    (λ c. omega (arith, few (c .before .before)))
+    (λ c. few (c .before .before))
+    (λ c κs. search needs)
+    (λ c. omega (arith, few (c .before .before)))
+    (λ c. omega (arith, c .before .before .loop-test .taken))
     loop-again
-    same-length
+    (λ c. c .before .loop .inv .same)
     returns)

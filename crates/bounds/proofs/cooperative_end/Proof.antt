@@ -14,19 +14,10 @@ use Rattle.bounds.proofs.Begun.{StartRange, start-range}
 use Rattle.bounds.proofs.cooperative_end.Statement.{statement}
 use Rattle.bounds.proofs.cooperative_end.Tie as tie
 
-add-search : tie.Need-add-search
-add-search c = omega (arith, sums-small (c .before .before .pre))
-
-add-search-2 : tie.Need-add-search-2
-add-search-2 c = omega (arith, sums-small (c .before .before .pre))
-
 search-requires : tie.Need-search-requires
 search-requires c κs =
     let a = c .before .before .pre in
     (highers-summed a, (omega (arith, sums-small a), begins a _))
-
-value-of-requires : tie.Need-value-of-requires
-value-of-requires c κs = search needs
 
 -- the first search answers with the tick after the start
 answered : (c : tie.After-value-of)
@@ -41,26 +32,14 @@ range : (c : tie.After-value-of)
     (c .value-of .result)
 range c = start-range (c .before .before .before .before .pre) (c .value-of .result) (answered c)
 
-sub-earliest : tie.Need-sub-earliest
-sub-earliest c = range c .some
-
-add-earliest : tie.Need-add-earliest
-add-earliest c = omega (arith, range c .early)
-
 work-requires : tie.Need-work-requires
 work-requires c κs = (preemptives-summed (c .before .before .before .before .pre), range c .small)
-
-sub-rest : tie.Need-sub-rest
-sub-rest c = omega (arith, c .work .ensures, range (c .before) .behind)
 
 search-requires-2 : tie.Need-search-requires-2
 search-requires-2 c κs = (
   preemptives-summed (c .before .before .before .before .before .pre),
   (omega (arith, range (c .before) .early), rw (c .work .ensures) (range (c .before) .begins)),
 )
-
-value-of-requires-2 : tie.Need-value-of-requires-2
-value-of-requires-2 c κs = search needs
 
 -- the two searches together
 both : (highers preempts : List ℕ) (base from time y w e : ℕ) → y ≡ solution highers (base + 1) (from + 1) → w ≡ workAt preempts y
@@ -78,14 +57,14 @@ pub cooperative-end-spec : {M : Type 1} → statement M
 cooperative-end-spec =
     tie.close
     (tie.spec
-    add-search
-    add-search-2
+    (λ c. omega (arith, sums-small (c .before .before .pre)))
+    (λ c. omega (arith, sums-small (c .before .before .pre)))
     search-requires
-    value-of-requires
-    sub-earliest
-    add-earliest
+    (λ c κs. search needs)
+    (λ c. range c .some)
+    (λ c. omega (arith, range c .early))
     work-requires
-    sub-rest
+    (λ c. omega (arith, c .work .ensures, range (c .before) .behind))
     search-requires-2
-    value-of-requires-2
+    (λ c κs. search needs)
     returns)

@@ -91,15 +91,6 @@ turned c = c .before .before .before .before .before .before
 loop-holds : tie.Need-loop-holds Inv-loop μ-loop
 loop-holds c = none-done _ _ _ _ _ _
 
-mul-time : tie.Need-mul-time Inv-loop μ-loop
-mul-time c = omega (arith, c .loop-test .taken)
-
-shared-slice-read-time : tie.Need-shared-slice-read-time Inv-loop μ-loop
-shared-slice-read-time c = omega arith
-
-cast-time : tie.Need-cast-time Inv-loop μ-loop
-cast-time c = omega (arith, c .shared-slice-known4 .given (c .before .before .loop .r))
-
 part-end-requires : tie.Need-part-end-requires Inv-loop μ-loop
 part-end-requires c κs =
     let s = c .before .before .loop .inv in
@@ -121,38 +112,11 @@ room c =
     let same = called c .pre .1 in
     omega (arith, same, kept (c .before .loop .inv) same, c .loop-test .taken)
 
-sub-response : tie.Need-sub-response Inv-loop μ-loop
-sub-response c = range (c .before .before) .0
-
-cast-response : tie.Need-cast-response Inv-loop μ-loop
-cast-response c = omega (arith, range (c .before .before) .1)
-
-mul-larger : tie.Need-mul-larger Inv-loop μ-loop
-mul-larger c = omega (arith, room (c .before .before .before .before), called (c .before .before .before .before) .good)
-
-slice-read-larger : tie.Need-slice-read-larger Inv-loop μ-loop
-slice-read-larger c = room (c .before .before .before .before .before)
-
-larger-requires : tie.Need-larger-requires Inv-loop μ-loop
-larger-requires c κs = search needs
-
-mul-bounds : tie.Need-mul-bounds Inv-loop μ-loop
-mul-bounds c = omega (arith, room (turned c))
-
-slice-write-bounds : tie.Need-slice-write-bounds Inv-loop μ-loop
-slice-write-bounds c = room (turned c)
-
 add-done : tie.Need-add-done Inv-loop μ-loop
 add-done c =
     let d = turned c in
     let small = sums-small (at-part (called d .pre .0) (d .before .loop .r) (d .loop-test .taken)) in
     omega (arith, small .0, d .before .loop .inv .base)
-
-add-r : tie.Need-add-r Inv-loop μ-loop
-add-r c = omega arith
-
-loop-less : tie.Need-loop-less Inv-loop μ-loop
-loop-less c = omega arith
 
 loop-again : tie.Need-loop-again Inv-loop μ-loop
 loop-again c =
@@ -160,9 +124,6 @@ loop-again c =
     let e = c .before .before .before .before .part-end in
     one-more (d .before .loop .inv) (called d .pre .1) (d .loop-test .taken) (e .result) (e .ensures) (c .larger .result)
     (c .larger .ensures)
-
-same-length : tie.Need-same-length Inv-loop μ-loop
-same-length c = kept (c .before .loop .inv) (c .before .before .before .before .before .before .pre .1)
 
 returns : tie.Need-returns Inv-loop μ-loop
 returns c = all-raised (c .before .loop .inv) (c .before .before .before .before .before .before .pre .1) (c .loop-test .left)
@@ -174,20 +135,20 @@ job-parts-spec =
     Inv-loop
     μ-loop
     loop-holds
-    mul-time
-    shared-slice-read-time
-    cast-time
+    (λ c. omega (arith, c .loop-test .taken))
+    (λ c. omega arith)
+    (λ c. omega (arith, c .shared-slice-known4 .given (c .before .before .loop .r)))
     part-end-requires
-    sub-response
-    cast-response
-    mul-larger
-    slice-read-larger
-    larger-requires
-    mul-bounds
-    slice-write-bounds
+    (λ c. range (c .before .before) .0)
+    (λ c. omega (arith, range (c .before .before) .1))
+    (λ c. omega (arith, room (c .before .before .before .before), called (c .before .before .before .before) .good))
+    (λ c. room (c .before .before .before .before .before))
+    (λ c κs. search needs)
+    (λ c. omega (arith, room (turned c)))
+    (λ c. room (turned c))
     add-done
-    add-r
-    loop-less
+    (λ c. omega arith)
+    (λ c. omega arith)
     loop-again
-    same-length
+    (λ c. kept (c .before .loop .inv) (c .before .before .before .before .before .before .pre .1))
     returns)

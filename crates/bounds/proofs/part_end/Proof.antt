@@ -19,19 +19,10 @@ cooperative-end-requires c κs = rw (c .if1 .taken) at (c .before .before .befor
 returns : tie.Need-returns
 returns c = rw (c .before .if1 .taken) (c .cooperative-end .ensures)
 
-add-search : tie.Need-add-search
-add-search c = omega (arith, sums-small (c .before .before .before .pre))
-
-add-search-2 : tie.Need-add-search-2
-add-search-2 c = omega (arith, sums-small (c .before .before .before .pre))
-
 search-requires : tie.Need-search-requires
 search-requires c κs =
     let a = c .before .before .before .pre in
     (highers-summed a, (omega (arith, sums-small a), begins a _))
-
-value-of-requires : tie.Need-value-of-requires
-value-of-requires c κs = search needs
 
 -- the one search
 one : (highers preempts : List ℕ) (coop : Bool) (base from time e : ℕ) → coop ≡ false → e ≡ solution highers (base + time) (from + time)
@@ -50,8 +41,8 @@ part-end-spec =
     (tie.spec
     cooperative-end-requires
     returns
-    add-search
-    add-search-2
+    (λ c. omega (arith, sums-small (c .before .before .before .pre)))
+    (λ c. omega (arith, sums-small (c .before .before .before .pre)))
     search-requires
-    value-of-requires
+    (λ c κs. search needs)
     returns-2)

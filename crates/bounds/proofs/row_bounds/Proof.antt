@@ -86,30 +86,6 @@ entry c = c .before .before .before .before
 abbrev called : tie.After-struct-known2 Inv-loop μ-loop → tie.Start Inv-loop μ-loop
 called c = entry (c .before .before .before .before .before .before .before .before .before .before)
 
-clear-requires : tie.Need-clear-requires Inv-loop μ-loop
-clear-requires c κs = search needs
-
-shared-slice-read-period : tie.Need-shared-slice-read-period Inv-loop μ-loop
-shared-slice-read-period c = omega (arith, has-own (entry (c .before .before .before .before .before) .pre .0))
-
-cast-period : tie.Need-cast-period Inv-loop μ-loop
-cast-period c = omega (arith, c .shared-slice-known4 .given 0)
-
-shared-slice-read-cost : tie.Need-shared-slice-read-cost Inv-loop μ-loop
-shared-slice-read-cost c = has-own (entry (c .before .before .before .before .before .before) .pre .0)
-
-cast-cost : tie.Need-cast-cost Inv-loop μ-loop
-cast-cost c = omega (arith, c .shared-slice-known5 .given 1)
-
-sub-higher : tie.Need-sub-higher Inv-loop μ-loop
-sub-higher c = has-own (entry (c .before .before .before .before .before .before) .pre .0)
-
-part-higher-start : tie.Need-part-higher-start Inv-loop μ-loop
-part-higher-start c = omega (arith, sub-higher c)
-
-part-higher-end : tie.Need-part-higher-end Inv-loop μ-loop
-part-higher-end c = omega arith
-
 loop-holds : tie.Need-loop-holds Inv-loop μ-loop
 loop-holds c =
     let lengths = entry (c .before .before .before .before .before .before .before) .pre .1 in
@@ -159,14 +135,14 @@ row-bounds-spec =
     (tie.spec
     Inv-loop
     μ-loop
-    clear-requires
-    shared-slice-read-period
-    cast-period
-    shared-slice-read-cost
-    cast-cost
-    sub-higher
-    part-higher-start
-    part-higher-end
+    (λ c κs. search needs)
+    (λ c. omega (arith, has-own (entry (c .before .before .before .before .before) .pre .0)))
+    (λ c. omega (arith, c .shared-slice-known4 .given 0))
+    (λ c. has-own (entry (c .before .before .before .before .before .before) .pre .0))
+    (λ c. omega (arith, c .shared-slice-known5 .given 1))
+    (λ c. has-own (entry (c .before .before .before .before .before .before) .pre .0))
+    (λ c. omega (arith, has-own (entry (c .before .before .before .before .before .before) .pre .0)))
+    (λ c. omega arith)
     loop-holds
     job-parts-requires
     add-base

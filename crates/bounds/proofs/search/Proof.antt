@@ -39,9 +39,6 @@ add-y c =
       work-fits (s .args .loads .now) (c .before .before .loop .x) (s .pre .0) (work-requires (c .before) (s .κs) .1),
     )
 
-add-n : tie.Need-add-n Inv-loop μ-loop
-add-n c = omega (arith, c .before .before .loop .inv .1 .below)
-
 -- y is the right side at x
 worked : (c : tie.After-work Inv-loop μ-loop)
     → c .before .before .before .before .args .base + c .work .result
@@ -56,9 +53,6 @@ returns c =
     answer-is _ _ _ _
     (sym (under-found _ _ 16777215 _ (i .0) q (c .before .before .loop-test .taken)))
     (counted-repeat _ 16777215 _ _ _ (i .1) (c .before .before .loop-test .taken) q)
-
-loop-less : tie.Need-loop-less Inv-loop μ-loop
-loop-less c = omega (arith, c .before .before .before .loop .inv .0 .rises, worked (c .before))
 
 loop-again : tie.Need-loop-again Inv-loop μ-loop
 loop-again c =
@@ -76,4 +70,15 @@ returns-2 c =
 
 pub search-spec : {M : Type 1} → statement M
 search-spec =
-    tie.close (tie.spec Inv-loop μ-loop loop-holds work-requires add-y add-n returns loop-less loop-again returns-2)
+    tie.close
+    (tie.spec
+    Inv-loop
+    μ-loop
+    loop-holds
+    work-requires
+    add-y
+    (λ c. omega (arith, c .before .before .loop .inv .1 .below))
+    returns
+    (λ c. omega (arith, c .before .before .before .loop .inv .0 .rises, worked (c .before)))
+    loop-again
+    returns-2)

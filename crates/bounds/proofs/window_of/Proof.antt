@@ -4,12 +4,6 @@ use Rattle.bounds.proofs.Sides.{own-begins}
 use Rattle.bounds.proofs.window_of.Statement.{statement}
 use Rattle.bounds.proofs.window_of.Tie as tie
 
-shared-slice-read-cost : tie.Need-shared-slice-read-cost
-shared-slice-read-cost c = own-begins _ (c .before .before .pre .0) (c .before .before .pre .1 .0) 0 .0
-
-cast-cost : tie.Need-cast-cost
-cast-cost c = omega (arith, c .shared-slice-known2 .given 1)
-
 search-requires : tie.Need-search-requires
 search-requires c κs =
     let p = c .before .before .pre in
@@ -19,4 +13,10 @@ returns : tie.Need-returns
 returns c = c .search .ensures
 
 pub window-of-spec : {M : Type 1} → statement M
-window-of-spec = tie.close (tie.spec shared-slice-read-cost cast-cost search-requires returns)
+window-of-spec =
+    tie.close
+    (tie.spec
+    (λ c. own-begins _ (c .before .before .pre .0) (c .before .before .pre .1 .0) 0 .0)
+    (λ c. omega (arith, c .shared-slice-known2 .given 1))
+    search-requires
+    returns)

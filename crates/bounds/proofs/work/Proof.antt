@@ -23,51 +23,9 @@ turn : (c : tie.In-loop Inv-loop μ-loop)
     → Turn (c .before .before .args .loads .now) (c .before .before .args .x) (c .before .loop .sum) (c .before .loop .i)
 turn c = work-turn _ _ _ _ (c .loop-test .taken) (c .before .loop .inv .1) (c .before .loop .inv .2)
 
-mul-t : tie.Need-mul-t Inv-loop μ-loop
-mul-t c = omega arith
-
-shared-slice-read-t : tie.Need-shared-slice-read-t Inv-loop μ-loop
-shared-slice-read-t c = omega arith
-
-cast-t : tie.Need-cast-t Inv-loop μ-loop
-cast-t c = omega (arith, c .shared-slice-known .given (c .before .before .loop .i))
-
-add-c : tie.Need-add-c Inv-loop μ-loop
-add-c c = omega (arith, turn (c .before) .whole)
-
-mul-c : tie.Need-mul-c Inv-loop μ-loop
-mul-c c = omega (arith, turn (c .before) .whole)
-
-shared-slice-read-c : tie.Need-shared-slice-read-c Inv-loop μ-loop
-shared-slice-read-c c = turn (c .before .before) .whole
-
-cast-c : tie.Need-cast-c Inv-loop μ-loop
-cast-c c = omega (arith, c .shared-slice-known2 .given (c .before .before .before .loop .i + 1))
-
-sub-sum : tie.Need-sub-sum Inv-loop μ-loop
-sub-sum c = turn (c .before .before) .period
-
-add-sum : tie.Need-add-sum Inv-loop μ-loop
-add-sum c = omega (arith, c .before .shared-slice-known .given (c .before .before .before .loop .i))
-
-div-sum : tie.Need-div-sum Inv-loop μ-loop
-div-sum c = turn (c .before .before) .period
-
 -- the work fits
 fits : (s : tie.Start Inv-loop μ-loop) → workAt (s .args .loads .now) (s .args .x) ≤ 2305842871774740480
 fits s = work-fits _ _ (s .pre .0) (s .pre .1)
-
-mul-sum : tie.Need-mul-sum Inv-loop μ-loop
-mul-sum c = omega (arith, turn (c .before .before) .same, fits (c .before .before .before .before))
-
-add-sum-2 : tie.Need-add-sum-2 Inv-loop μ-loop
-add-sum-2 c = omega (arith, turn (c .before .before) .same, fits (c .before .before .before .before))
-
-add-i : tie.Need-add-i Inv-loop μ-loop
-add-i c = omega (arith, turn (c .before .before) .whole)
-
-loop-less : tie.Need-loop-less Inv-loop μ-loop
-loop-less c = omega (arith, turn (c .before .before) .whole)
 
 loop-again : tie.Need-loop-again Inv-loop μ-loop
 loop-again c = (
@@ -89,19 +47,19 @@ work-spec =
     Inv-loop
     μ-loop
     loop-holds
-    mul-t
-    shared-slice-read-t
-    cast-t
-    add-c
-    mul-c
-    shared-slice-read-c
-    cast-c
-    sub-sum
-    add-sum
-    div-sum
-    mul-sum
-    add-sum-2
-    add-i
-    loop-less
+    (λ c. omega arith)
+    (λ c. omega arith)
+    (λ c. omega (arith, c .shared-slice-known .given (c .before .before .loop .i)))
+    (λ c. omega (arith, turn (c .before) .whole))
+    (λ c. omega (arith, turn (c .before) .whole))
+    (λ c. turn (c .before .before) .whole)
+    (λ c. omega (arith, c .shared-slice-known2 .given (c .before .before .before .loop .i + 1)))
+    (λ c. turn (c .before .before) .period)
+    (λ c. omega (arith, c .before .shared-slice-known .given (c .before .before .before .loop .i)))
+    (λ c. turn (c .before .before) .period)
+    (λ c. omega (arith, turn (c .before .before) .same, fits (c .before .before .before .before)))
+    (λ c. omega (arith, turn (c .before .before) .same, fits (c .before .before .before .before)))
+    (λ c. omega (arith, turn (c .before .before) .whole))
+    (λ c. omega (arith, turn (c .before .before) .whole))
     loop-again
     returns)

@@ -155,23 +155,24 @@ rows-there c = search (needs, length-mapped)
 times-there : (c : tie.Start Inv-loop μ-loop) → length (c .args .t1 .times) ≡ 1024
 times-there c = search needs
 
--- the times of the row have room where they come from, and where they go
+-- the times of the row have room where they come from
 room-there : (c : tie.In-loop Inv-loop μ-loop)
     → c .before .loop .used + getD (called c .args .t1 .rows) (c .before .loop .i) zeroRow .parts ≤ 1024
 room-there c = coming (c .before .loop .inv) (c .loop-test .taken) .room
 
+-- within the table's times
+lent-there : (c : tie.In-loop Inv-loop μ-loop)
+    → c .before .loop .used + getD (called c .args .t1 .rows) (c .before .loop .i) zeroRow .parts ≤ length (called c .args .t1 .times)
+lent-there c = omega (arith, room-there c, times-there (called c))
+
+-- and where they go
 room-here : (c : tie.In-loop Inv-loop μ-loop)
     → c .before .loop .parts + getD (called c .args .t1 .rows) (c .before .loop .i) zeroRow .parts ≤ 1024
 room-here c = room (c .before .loop .inv) (c .loop-test .taken)
 
+-- and the row has a place
 place-here : (c : tie.In-loop Inv-loop μ-loop) → c .before .loop .count < 64
 place-here c = place (c .before .loop .inv) (c .loop-test .taken)
-
-row-of-requires : tie.Need-row-of-requires Inv-loop μ-loop
-row-of-requires c κs = search needs
-
-asked-nothing-requires : tie.Need-asked-nothing-requires Inv-loop μ-loop
-asked-nothing-requires c κs = search needs
 
 loop-holds : tie.Need-loop-holds Inv-loop μ-loop
 unfolding each
@@ -189,43 +190,6 @@ loop-holds c =
       less = search needs;
     }
 
-mul-row : tie.Need-mul-row Inv-loop μ-loop
-mul-row c = omega (arith, c .before .loop .inv .ahead .few)
-
-element-copy-out-row : tie.Need-element-copy-out-row Inv-loop μ-loop
-element-copy-out-row c = omega (arith, c .before .loop .inv .ahead .few)
-
-cast-more : tie.Need-cast-more Inv-loop μ-loop
-cast-more c = search needs
-
-add-next : tie.Need-add-next Inv-loop μ-loop
-add-next c = omega (arith, room-there (c .before .before))
-
-mul-copy : tie.Need-mul-copy Inv-loop μ-loop
-mul-copy c = omega (arith, room-there (turn c))
-
-sub-copy : tie.Need-sub-copy Inv-loop μ-loop
-sub-copy c = omega (arith, room-there (turn c))
-
-part-copy-start : tie.Need-part-copy-start Inv-loop μ-loop
-part-copy-start c =
-    let l = turn (c .before) in
-    omega (arith, room-there l, times-there (called l))
-
-part-copy-end : tie.Need-part-copy-end Inv-loop μ-loop
-part-copy-end c =
-    let l = turn (c .before) in
-    omega (arith, room-there l, times-there (called l))
-
-mul-times : tie.Need-mul-times Inv-loop μ-loop
-mul-times c = omega (arith, room-here (turn (c .before .before)))
-
-sub-copy-2 : tie.Need-sub-copy-2 Inv-loop μ-loop
-sub-copy-2 c = omega (arith, room-here (turn (c .before .before)))
-
-part-times-start : tie.Need-part-times-start Inv-loop μ-loop
-part-times-start c = omega (arith, room-here (turn (c .before .before)))
-
 part-times-end : tie.Need-part-times-end Inv-loop μ-loop
 part-times-end c =
     let l = turn (c .before .before) in
@@ -240,50 +204,10 @@ copy-requires c κs =
 abbrev copied : tie.After-times2 Inv-loop μ-loop → tie.In-loop Inv-loop μ-loop
 copied c = turn (c .before .before .before .before .before)
 
-mul-rows : tie.Need-mul-rows Inv-loop μ-loop
-mul-rows c = omega (arith, place-here (copied c))
-
-array-set-from-rows : tie.Need-array-set-from-rows Inv-loop μ-loop
-array-set-from-rows c = place-here (copied c)
-
-mul-asked-of : tie.Need-mul-asked-of Inv-loop μ-loop
-mul-asked-of c = omega (arith, room-there (copied c))
-
-sub-asked-of : tie.Need-sub-asked-of Inv-loop μ-loop
-sub-asked-of c = omega (arith, room-there (copied c))
-
-part-asked-of-start : tie.Need-part-asked-of-start Inv-loop μ-loop
-part-asked-of-start c =
-    let l = copied (c .before) in
-    omega (arith, room-there l, times-there (called l))
-
-part-asked-of-end : tie.Need-part-asked-of-end Inv-loop μ-loop
-part-asked-of-end c =
-    let l = copied (c .before) in
-    omega (arith, room-there l, times-there (called l))
-
 asked-of-requires : tie.Need-asked-of-requires Inv-loop μ-loop
 asked-of-requires c κs =
     let l = copied (c .before .before) in
     sum-fits (l .before .loop .inv) (l .loop-test .taken)
-
-mul-asked : tie.Need-mul-asked Inv-loop μ-loop
-mul-asked c = omega (arith, place-here (copied (c .before .before .before)))
-
-array-set-from-asked : tie.Need-array-set-from-asked Inv-loop μ-loop
-array-set-from-asked c = place-here (copied (c .before .before .before))
-
-add-count : tie.Need-add-count Inv-loop μ-loop
-add-count c = omega (arith, place-here (copied (c .before .before .before)))
-
-add-parts : tie.Need-add-parts Inv-loop μ-loop
-add-parts c = omega (arith, room-here (copied (c .before .before .before)))
-
-add-i : tie.Need-add-i Inv-loop μ-loop
-add-i c = search needs
-
-loop-less : tie.Need-loop-less Inv-loop μ-loop
-loop-less c = search needs
 
 loop-again : tie.Need-loop-again Inv-loop μ-loop
 loop-again c =
@@ -305,34 +229,34 @@ core-of-spec =
     (tie.spec
     Inv-loop
     μ-loop
-    row-of-requires
-    asked-nothing-requires
+    (λ c κs. search needs)
+    (λ c κs. search needs)
     loop-holds
-    mul-row
-    element-copy-out-row
-    cast-more
-    add-next
-    mul-copy
-    sub-copy
-    part-copy-start
-    part-copy-end
-    mul-times
-    sub-copy-2
-    part-times-start
+    (λ c. omega (arith, c .before .loop .inv .ahead .few))
+    (λ c. omega (arith, c .before .loop .inv .ahead .few))
+    (λ c. search needs)
+    (λ c. omega (arith, room-there (c .before .before)))
+    (λ c. omega (arith, room-there (turn c)))
+    (λ c. omega (arith, room-there (turn c)))
+    (λ c. omega (arith, lent-there (turn (c .before))))
+    (λ c. omega (arith, lent-there (turn (c .before))))
+    (λ c. omega (arith, room-here (turn (c .before .before))))
+    (λ c. omega (arith, room-here (turn (c .before .before))))
+    (λ c. omega (arith, room-here (turn (c .before .before))))
     part-times-end
     copy-requires
-    mul-rows
-    array-set-from-rows
-    mul-asked-of
-    sub-asked-of
-    part-asked-of-start
-    part-asked-of-end
+    (λ c. omega (arith, place-here (copied c)))
+    (λ c. place-here (copied c))
+    (λ c. omega (arith, room-there (copied c)))
+    (λ c. omega (arith, room-there (copied c)))
+    (λ c. omega (arith, lent-there (copied (c .before))))
+    (λ c. omega (arith, lent-there (copied (c .before))))
     asked-of-requires
-    mul-asked
-    array-set-from-asked
-    add-count
-    add-parts
-    add-i
-    loop-less
+    (λ c. omega (arith, place-here (copied (c .before .before .before))))
+    (λ c. place-here (copied (c .before .before .before)))
+    (λ c. omega (arith, place-here (copied (c .before .before .before))))
+    (λ c. omega (arith, room-here (copied (c .before .before .before))))
+    (λ c. search needs)
+    (λ c. search needs)
     loop-again
     returns)

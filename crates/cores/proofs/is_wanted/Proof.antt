@@ -4,12 +4,6 @@ use Rattle.cores.specs.Promises.{isWanted}
 use Rattle.cores.proofs.is_wanted.Statement.{statement}
 use Rattle.cores.proofs.is_wanted.Tie as tie
 
-enum-known-which : tie.Need-enum-known-which
-enum-known-which c = search needs
-
-enum-told : tie.Need-enum-told
-enum-told c = search needs
-
 returns : tie.Need-returns
 unfolding isWanted
 returns c = rw (c .before .before .which .given .1)
@@ -19,4 +13,4 @@ unfolding isWanted
 returns-2 c = rw (c .before .enum-told .given .1)
 
 pub is-wanted-spec : {M : Type 1} → statement M
-is-wanted-spec = tie.close (tie.spec enum-known-which enum-told returns returns-2)
+is-wanted-spec = tie.close (tie.spec (λ c. search needs) (λ c. search needs) returns returns-2)

@@ -40,25 +40,10 @@ own-fits s =
     let most = rw (own-is s) at (own-most rows (s .args .own) (omega arith)) in
     omega arith
 
-mul-a : tie.Need-mul-a
-mul-a c = search needs
-
-array-copy-out-a : tie.Need-array-copy-out-a
-array-copy-out-a c = search needs
-
-slice-write-out : tie.Need-slice-write-out
-slice-write-out c = search needs
-
-slice-write-out-2 : tie.Need-slice-write-out-2
-slice-write-out-2 c = simp length-set (omega arith)
-
 put-loads-requires : tie.Need-put-loads-requires
 put-loads-requires c κs =
     let s = c .before .before .before in
     (s .pre .0 .1, simp length-set (omega (arith, s .pre .1, own-fits s)))
-
-same-length : tie.Need-same-length
-same-length c = c .before .before .put-loads .kept .1 .1 .1 .1 .0 ∙ simp length-set
 
 returns : tie.Need-returns
 unfolding each
@@ -71,10 +56,10 @@ pub own-first-spec : {M : Type 1} → statement M
 own-first-spec =
     tie.close
     (tie.spec
-    mul-a
-    array-copy-out-a
-    slice-write-out
-    slice-write-out-2
+    (λ c. search needs)
+    (λ c. search needs)
+    (λ c. search needs)
+    (λ c. simp length-set (omega arith))
     put-loads-requires
-    same-length
+    (λ c. c .before .before .put-loads .kept .1 .1 .1 .1 .0 ∙ simp length-set)
     returns)

@@ -13,11 +13,5 @@ put-loads-requires c κs =
     let rows = take (s .args .count) (s .args .asked) in
     (s .pre .0, omega (arith, s .pre, wanted-most Preemptive rows, length-take (s .args .count) (s .args .asked)))
 
-same-length : tie.Need-same-length
-same-length c = search needs
-
-returns : tie.Need-returns
-returns c = search needs
-
 pub preemptive-loads-spec : {M : Type 1} → statement M
-preemptive-loads-spec = tie.close (tie.spec put-loads-requires same-length returns)
+preemptive-loads-spec = tie.close (tie.spec put-loads-requires (λ c. search needs) (λ c. search needs))

@@ -129,39 +129,6 @@ loop-holds c =
           );
     }
 
-mul-a : tie.Need-mul-a Inv-loop μ-loop
-mul-a c = omega arith
-
-array-copy-out-a : tie.Need-array-copy-out-a Inv-loop μ-loop
-array-copy-out-a c = omega arith
-
-is-wanted-requires : tie.Need-is-wanted-requires Inv-loop μ-loop
-is-wanted-requires c κs = search needs
-
-mul-out : tie.Need-mul-out Inv-loop μ-loop
-mul-out c = omega (arith, roomy c)
-
-slice-write-out : tie.Need-slice-write-out Inv-loop μ-loop
-slice-write-out c = omega (arith, roomy c)
-
-add-out : tie.Need-add-out Inv-loop μ-loop
-add-out c = omega (arith, roomy c)
-
-mul-out-2 : tie.Need-mul-out-2 Inv-loop μ-loop
-mul-out-2 c = omega (arith, roomy c)
-
-slice-write-out-2 : tie.Need-slice-write-out-2 Inv-loop μ-loop
-slice-write-out-2 c = simp length-set (omega (arith, roomy c))
-
-add-end : tie.Need-add-end Inv-loop μ-loop
-add-end c = omega (arith, roomy c)
-
-add-i : tie.Need-add-i Inv-loop μ-loop
-add-i c = omega arith
-
-loop-less : tie.Need-loop-less Inv-loop μ-loop
-loop-less c = omega arith
-
 loop-again : tie.Need-loop-again Inv-loop μ-loop
 loop-again c =
     let l = c .before .before .before in
@@ -170,9 +137,6 @@ loop-again c =
     (λ w. rw (w .1, w .2) (row-put p (next-row l) (sym (c .before .is-wanted .ensures) ∙ w .0 .taken)))
     (λ w. rw (w .1, w .2) (row-passed p (next-row l) (sym (c .before .is-wanted .ensures) ∙ w .0 .left)))
     (c .if1 .came)
-
-same-length : tie.Need-same-length Inv-loop μ-loop
-same-length c = room-length (c .before .loop .inv)
 
 returns : tie.Need-returns Inv-loop μ-loop
 returns c =
@@ -186,17 +150,17 @@ put-loads-spec =
     Inv-loop
     μ-loop
     loop-holds
-    mul-a
-    array-copy-out-a
-    is-wanted-requires
-    mul-out
-    slice-write-out
-    add-out
-    mul-out-2
-    slice-write-out-2
-    add-end
-    add-i
-    loop-less
+    (λ c. omega arith)
+    (λ c. omega arith)
+    (λ c κs. search needs)
+    (λ c. omega (arith, roomy c))
+    (λ c. omega (arith, roomy c))
+    (λ c. omega (arith, roomy c))
+    (λ c. omega (arith, roomy c))
+    (λ c. simp length-set (omega (arith, roomy c)))
+    (λ c. omega (arith, roomy c))
+    (λ c. omega arith)
+    (λ c. omega arith)
     loop-again
-    same-length
+    (λ c. room-length (c .before .loop .inv))
     returns)

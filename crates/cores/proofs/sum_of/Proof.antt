@@ -20,23 +20,11 @@ loop-holds : tie.Need-loop-holds Inv-loop μ-loop
 unfolding sum
 loop-holds c = (search needs, refl)
 
-mul-all : tie.Need-mul-all Inv-loop μ-loop
-mul-all c = search needs
-
-shared-slice-read-all : tie.Need-shared-slice-read-all Inv-loop μ-loop
-shared-slice-read-all c = search needs
-
 add-all : tie.Need-add-all Inv-loop μ-loop
 add-all c =
     let c2 = c .before .before in
     let times = c2 .before .args .times .now in
     omega (arith, c2 .loop .inv .1, sum-suc times (c2 .loop .i), sum-take times (suc (c2 .loop .i)), c2 .before .pre)
-
-add-i : tie.Need-add-i Inv-loop μ-loop
-add-i c = search needs
-
-loop-less : tie.Need-loop-less Inv-loop μ-loop
-loop-less c = search needs
 
 loop-again : tie.Need-loop-again Inv-loop μ-loop
 loop-again c =
@@ -54,10 +42,10 @@ sum-of-spec =
     Inv-loop
     μ-loop
     loop-holds
-    mul-all
-    shared-slice-read-all
+    (λ c. search needs)
+    (λ c. search needs)
     add-all
-    add-i
-    loop-less
+    (λ c. search needs)
+    (λ c. search needs)
     loop-again
     returns)

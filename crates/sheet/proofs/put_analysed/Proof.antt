@@ -14,14 +14,6 @@ use Rattle.sheet.proofs.CoreTexts.{enough, text-is}
 use Rattle.sheet.proofs.put_analysed.Statement.{statement}
 use Rattle.sheet.proofs.put_analysed.Tie as tie
 
--- the rows of a table in memory, by its type
-rows-there : (c : tie.Start) → length (c .args .t .rows) ≡ 64
-rows-there c = search (needs, length-mapped)
-
--- and its times
-times-there : (c : tie.Start) → length (c .args .t .times) ≡ 1024
-times-there c = search needs
-
 -- the function's entry, as the call sees it
 abbrev entry : tie.After-core-of → tie.Start
 entry c = c .before .before
@@ -29,24 +21,15 @@ entry c = c .before .before
 -- the core is one of a good table
 is-core : (c : tie.After-core-of) → IsCore (c .core-of .result)
 is-core c =
-    let s = entry c in
-    subst IsCore (sym (c .core-of .ensures)) (core-of-good (s .args .t) (rows-there s) (times-there s) (s .pre .1) (s .args .core))
+    let t = entry c .args .t in
+    core-of-good t (search (needs, length-mapped)) (search needs) (entry c .pre .1) (entry c .args .core) (c .core-of .ensures)
 
 -- its rows are those of the table on that core
 own-rows : (c : tie.After-core-of) → tasksIn (c .core-of .result) ≡ onCore (entry c .args .core) (tasksOf (entry c .args .t))
 own-rows c = ap tasksIn (c .core-of .ensures) ∙ tasks-in _
 
-core-of-requires : tie.Need-core-of-requires
-core-of-requires c κs = search needs
-
-slice-aggregate-analyse-core : tie.Need-slice-aggregate-analyse-core
-slice-aggregate-analyse-core c = search needs
-
 analyse-core-requires : tie.Need-analyse-core-requires
 analyse-core-requires c κs = is-core (c .before)
-
-slice-aggregate-put-core : tie.Need-slice-aggregate-put-core
-slice-aggregate-put-core c = search needs
 
 put-core-requires : tie.Need-put-core-requires
 put-core-requires c κs =
@@ -56,9 +39,6 @@ put-core-requires c κs =
       enough (is-core made) _ (search needs),
       fits-as (sym (text-is (is-core made) _ _ (s .pre .0) (own-rows made) refl (call .analyse-core .ensures))) (s .pre .2),
     )
-
-same-length : tie.Need-same-length
-same-length c = search needs
 
 returns : tie.Need-returns
 returns c =
@@ -72,10 +52,10 @@ pub put-analysed-spec : {M : Type 1} → statement M
 put-analysed-spec =
     tie.close
     (tie.spec
-    core-of-requires
-    slice-aggregate-analyse-core
+    (λ c κs. search needs)
+    (λ c. search needs)
     analyse-core-requires
-    slice-aggregate-put-core
+    (λ c. search needs)
     put-core-requires
-    same-length
+    (λ c. search needs)
     returns)

@@ -24,61 +24,45 @@ module _ (core : ℕ) (rows : List Row) (bounds : List ℕ) (v : Verdict) {code 
   unfolding coreBytes
   both h = rw (ne-eqb (codeOf v) 11 (λ e. h (own ∙ e)))
 
-code-of-requires : tie.Need-code-of-requires
-code-of-requires c κs = search needs
-
 put-core-line-requires : tie.Need-put-core-line-requires
 put-core-line-requires c κs =
     fits-as (only _ _ _ _ (c .before .before .code-of .ensures) (c .before .if1 .taken)) (c .before .before .before .before .before .pre .1)
 
-same-length : tie.Need-same-length
-same-length c = search needs
-
 returns : tie.Need-returns
 returns c =
-    let c2 = c .before .before in
-    let c4 = c2 .before .before in
-    let c5 = c4 .before in
-    put-as (only _ _ _ _ (c5 .code-of .ensures) (c4 .if1 .taken)) (c2 .put-core-line .ensures)
+    let only-line = c .before .before .before .before in
+    put-as (only _ _ _ _ (only-line .before .code-of .ensures) (only-line .if1 .taken)) (c .before .before .put-core-line .ensures)
 
 put-rows-requires : tie.Need-put-rows-requires
 put-rows-requires c κs =
-    let c1 = c .before in
-    let c2 = c1 .before in
-    let c5 = c2 .before .before .before in
-    (c5 .pre .0, room (starts _ _ _ (c5 .pre .1)) (rowsText _ _ _) _ (both _ _ _ _ (c2 .code-of .ensures) (c1 .if1 .left)))
+    let told = c .before .before in
+    let s = told .before .before .before in
+    (s .pre .0, room (starts _ _ _ (s .pre .1)) (rowsText _ _ _) _ (both _ _ _ _ (told .code-of .ensures) (c .before .if1 .left)))
 
 put-core-line-requires-2 : tie.Need-put-core-line-requires-2
 put-core-line-requires-2 c κs =
-    let c3 = c .before .before .before in
-    let c5 = c3 .before .before in
-    let c6 = c5 .before in
-    let c9 = c6 .before .before .before in
-    let k = starts _ _ _ (c9 .pre .1) in
-    turn k (rowsText _ _ _) _ (both _ _ _ _ (c6 .code-of .ensures) (c5 .if1 .left)) (c3 .put-rows .ensures) .fits
-
-same-length-2 : tie.Need-same-length-2
-same-length-2 c = search needs
+    let put = c .before .before .before in
+    let told = put .before .before .before in
+    let cut = both _ _ _ _ (told .code-of .ensures) (put .before .before .if1 .left) in
+    turn (starts _ _ _ (told .before .before .before .pre .1)) (rowsText _ _ _) _ cut (put .put-rows .ensures) .fits
 
 returns-2 : tie.Need-returns-2
 returns-2 c =
-    let c2 = c .before .before in
-    let c6 = c2 .before .before .before .before in
-    let c8 = c6 .before .before in
-    let c9 = c8 .before in
-    let c12 = c9 .before .before .before in
-    let cut = both _ _ _ _ (c9 .code-of .ensures) (c8 .if1 .left) in
-    last (turn (starts _ _ _ (c12 .pre .1)) (rowsText _ _ _) _ cut (c6 .put-rows .ensures)) (c2 .put-core-line2 .ensures)
+    let put = c .before .before .before .before .before .before in
+    let told = put .before .before .before in
+    let cut = both _ _ _ _ (told .code-of .ensures) (put .before .before .if1 .left) in
+    last (turn (starts _ _ _ (told .before .before .before .pre .1)) (rowsText _ _ _) _ cut (put .put-rows .ensures))
+    (c .before .before .put-core-line2 .ensures)
 
 pub put-core-spec : {M : Type 1} → statement M
 put-core-spec =
     tie.close
     (tie.spec
-    code-of-requires
+    (λ c κs. search needs)
     put-core-line-requires
-    same-length
+    (λ c. search needs)
     returns
     put-rows-requires
     put-core-line-requires-2
-    same-length-2
+    (λ c. search needs)
     returns-2)

@@ -31,18 +31,11 @@ module _ (t : Table) (out : List ℕ) (h : Fits (goodText (tasksOf t)) 0 out) wh
     unfolding goodText
     behind = turn (starts _ out 0 h) header (cores t 0) refl put
 
-    -- and where it ends the whole is put
-    ending : {q : ℕ} {out″ : List ℕ} → PutAt (cores t 0) p out′ q out″ → PutAt (goodText (tasksOf t)) 0 out q out″
-    ending put′ = last behind put′
-
 abbrev Inv-loop : tie.InvT-loop
 Inv-loop out₀ t p₀ core₀ out p core = Putting (cores t 0) out₀ p₀ out p (cores t core)
 
 abbrev μ-loop : tie.MeasureT-loop
 μ-loop out₀ t p₀ core₀ out p core = 4 - core
-
-slice-aggregate-put-word : tie.Need-slice-aggregate-put-word Inv-loop μ-loop
-slice-aggregate-put-word c = refl
 
 put-word-requires : tie.Need-put-word-requires Inv-loop μ-loop
 unfolding header line
@@ -51,39 +44,26 @@ put-word-requires c κs = header-fits _ _ (c .before .before .before .pre .1)
 loop-holds : tie.Need-loop-holds Inv-loop μ-loop
 unfolding header line
 loop-holds c =
-    let c2 = c .before .before in
-    let c6 = c2 .before .before .before .before in
-    starts _ _ _ (behind _ _ (c6 .pre .1) (c2 .put-word .ensures) .fits)
+    let put = c .before .before in
+    starts _ _ _ (behind _ _ (put .before .before .before .before .pre .1) (put .put-word .ensures) .fits)
 
 put-analysed-requires : tie.Need-put-analysed-requires Inv-loop μ-loop
 put-analysed-requires c κs =
-    let c2 = c .before .before in
-    let c9 = c2 .before .before .before .before .before .before .before in
-    (omega arith, c9 .pre .0, piece-room _ _ _ (c2 .loop .inv) (c .before .loop-test .taken))
-
-add-core : tie.Need-add-core Inv-loop μ-loop
-add-core c = omega arith
-
-loop-less : tie.Need-loop-less Inv-loop μ-loop
-loop-less c = omega arith
+    let l = c .before .before in
+    let s = l .before .before .before .before .before .before .before in
+    (omega arith, s .pre .0, piece-room _ _ _ (l .loop .inv) (c .before .loop-test .taken))
 
 loop-again : tie.Need-loop-again Inv-loop μ-loop
 loop-again c =
-    let c2 = c .before .before in
-    let c4 = c2 .before .before in
-    let c5 = c4 .before in
-    piece-turn _ _ _ (c5 .loop .inv) (c4 .loop-test .taken) (c2 .put-analysed .ensures)
-
-same-length : tie.Need-same-length Inv-loop μ-loop
-same-length c = search needs
+    let turned = c .before .before .before .before in
+    piece-turn _ _ _ (turned .before .loop .inv) (turned .loop-test .taken) (c .before .before .put-analysed .ensures)
 
 returns : tie.Need-returns Inv-loop μ-loop
 unfolding header line
 returns c =
-    let c1 = c .before in
-    let c4 = c1 .before .before .before in
-    let c8 = c4 .before .before .before .before in
-    ending _ _ (c8 .pre .1) (c4 .put-word .ensures) (pieces-end _ _ _ (c1 .loop .inv) (c .loop-test .left))
+    let put = c .before .before .before .before in
+    last (behind _ _ (put .before .before .before .before .pre .1) (put .put-word .ensures))
+    (pieces-end _ _ _ (c .before .loop .inv) (c .loop-test .left))
 
 pub put-cores-spec : {M : Type 1} → statement M
 put-cores-spec =
@@ -91,12 +71,12 @@ put-cores-spec =
     (tie.spec
     Inv-loop
     μ-loop
-    slice-aggregate-put-word
+    (λ c. refl)
     put-word-requires
     loop-holds
     put-analysed-requires
-    add-core
-    loop-less
+    (λ c. omega arith)
+    (λ c. omega arith)
     loop-again
-    same-length
+    (λ c. search needs)
     returns)

@@ -6,9 +6,6 @@ use Rattle.text.proofs.Lines.{word-room, word-turn}
 use Rattle.sheet.proofs.put_file_line.Statement.{statement}
 use Rattle.sheet.proofs.put_file_line.Tie as tie
 
-slice-aggregate-put-word : tie.Need-slice-aggregate-put-word
-slice-aggregate-put-word c = search needs
-
 put-word-requires : tie.Need-put-word-requires
 unfolding fileLine
 put-word-requires c κs = word-room fileWord _ _ (starts _ _ _ (c .before .before .before .pre))
@@ -16,23 +13,15 @@ put-word-requires c κs = word-room fileWord _ _ (starts _ _ _ (c .before .befor
 put-verdict-requires : tie.Need-put-verdict-requires
 unfolding fileLine
 put-verdict-requires c κs =
-    let c3 = c .before .before .before in
-    let c7 = c3 .before .before .before .before in
-    word-turn fileWord _ _ (starts _ _ _ (c7 .pre)) (c3 .put-word .ensures) .fits
-
-same-length : tie.Need-same-length
-same-length c = search needs
+    let word = c .before .before .before in
+    word-turn fileWord _ _ (starts _ _ _ (word .before .before .before .before .pre)) (word .put-word .ensures) .fits
 
 returns : tie.Need-returns
 unfolding fileLine
 returns c =
-    let c2 = c .before .before in
-    let c6 = c2 .before .before .before .before in
-    let c10 = c6 .before .before .before .before in
-    let k1 = word-turn fileWord _ _ (starts _ _ _ (c10 .pre)) (c6 .put-word .ensures) in
-    last k1 (c2 .put-verdict .ensures)
+    let word = c .before .before .before .before .before .before in
+    last (word-turn fileWord _ _ (starts _ _ _ (word .before .before .before .before .pre)) (word .put-word .ensures))
+    (c .before .before .put-verdict .ensures)
 
 pub put-file-line-spec : {M : Type 1} → statement M
-put-file-line-spec =
-    tie.close
-    (tie.spec slice-aggregate-put-word put-word-requires put-verdict-requires same-length returns)
+put-file-line-spec = tie.close (tie.spec (λ c. search needs) put-word-requires put-verdict-requires (λ c. search needs) returns)

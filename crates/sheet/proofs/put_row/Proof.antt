@@ -27,38 +27,17 @@ loop-holds : tie.Need-loop-holds Inv-loop μ-loop
 unfolding rowText bound-at
 loop-holds c = starts _ _ _ (c .before .before .pre .1)
 
-cast-put-bound : tie.Need-cast-put-bound Inv-loop μ-loop
-cast-put-bound c = omega (arith, c .before .before .before .before .before .pre .0)
-
-mul-put-bound : tie.Need-mul-put-bound Inv-loop μ-loop
-mul-put-bound c = omega (arith, c .before .before .before .before .before .pre .0)
-
-shared-slice-read-put-bound : tie.Need-shared-slice-read-put-bound Inv-loop μ-loop
-shared-slice-read-put-bound c = search needs
-
 put-bound-requires : tie.Need-put-bound-requires Inv-loop μ-loop
 unfolding bound-at
 put-bound-requires c κs =
-    let c2 = c .before .before in
-    let c3 = c2 .before in
-    (omega (arith, c3 .before .before .before .pre .0), piece-room _ _ _ (c3 .loop .inv) (c2 .loop-test .taken))
-
-add-r : tie.Need-add-r Inv-loop μ-loop
-add-r c = search needs
-
-loop-less : tie.Need-loop-less Inv-loop μ-loop
-loop-less c = search needs
+    let l = c .before .before .before in
+    (omega (arith, l .before .before .before .pre .0), piece-room _ _ _ (l .loop .inv) (c .before .before .loop-test .taken))
 
 loop-again : tie.Need-loop-again Inv-loop μ-loop
 unfolding bound-at
 loop-again c =
-    let c2 = c .before .before in
-    let c5 = c2 .before .before .before in
-    let c6 = c5 .before in
-    piece-turn _ _ _ (c6 .loop .inv) (c5 .loop-test .taken) (c2 .put-bound .ensures)
-
-same-length : tie.Need-same-length Inv-loop μ-loop
-same-length c = search needs
+    let turned = c .before .before .before .before .before in
+    piece-turn _ _ _ (turned .before .loop .inv) (turned .loop-test .taken) (c .before .before .put-bound .ensures)
 
 returns : tie.Need-returns Inv-loop μ-loop
 returns c = pieces-end _ _ _ (c .before .loop .inv) (c .loop-test .left)
@@ -70,12 +49,12 @@ put-row-spec =
     Inv-loop
     μ-loop
     loop-holds
-    cast-put-bound
-    mul-put-bound
-    shared-slice-read-put-bound
+    (λ c. omega (arith, c .before .before .before .before .before .pre .0))
+    (λ c. omega (arith, c .before .before .before .before .before .pre .0))
+    (λ c. search needs)
     put-bound-requires
-    add-r
-    loop-less
+    (λ c. search needs)
+    (λ c. search needs)
     loop-again
-    same-length
+    (λ c. search needs)
     returns)

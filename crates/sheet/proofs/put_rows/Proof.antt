@@ -34,32 +34,30 @@ module _ {core : ℕ} {t : Table} {bounds out₀ : List ℕ} {at : ℕ} {out : L
     (k : Rows core t bounds out₀ at out p used i) where
   module _ (h : i < t .count) (n : ℕ) (e : n ≡ getD (t .rows) i zeroRow .parts) where
     -- the next row
-    row : Row
+    abbrev row : Row
     row = getD (t .rows) i zeroRow
 
     -- the row's own bounds
-    own : List ℕ
+    abbrev own : List ℕ
     own = take (used + n - used) (drop used bounds)
 
     -- it, and the others behind it
     next : drop i (usedRows t) ≡ row ∷ drop (i + 1) (usedRows t)
-    unfolding row
     next = used-more (t .count) (t .rows) i h (k .rows-long)
 
     -- there are bounds for it and for the others
     left-next : used + n + partsIn (drop (i + 1) (usedRows t)) ≤ length bounds
-    unfolding total row
+    unfolding total
     left-next = omega (arith, k .left, e, ap partsIn next)
 
     -- no more than a table has times
     own-few : length own ≤ 1024
-    unfolding own
     own-few = omega (arith, part-length used n bounds (omega (arith, left-next)), left-next, k .enough .most)
 
     -- the lines of the row, then those of the others
     cut : rowsText core (drop i (usedRows t)) (drop used bounds)
         ≡ rowText core row own ++ rowsText core (drop (i + 1) (usedRows t)) (drop (used + n) bounds)
-    unfolding rowsText own row
+    unfolding rowsText
     cut = rw (next, ← e, drop-drop, part-is used n bounds)
 
     -- its lines have room
@@ -94,15 +92,6 @@ loop-holds c =
     let rows : length (c .before .before .args .t4 .rows) ≡ 64 = search (needs, length-mapped) in
     begins _ _ _ _ _ rows (c .before .before .pre .0) (c .before .before .pre .1)
 
-mul-row : tie.Need-mul-row Inv-loop μ-loop
-mul-row c = omega (arith, c .before .loop .inv .enough .rows)
-
-element-copy-out-row : tie.Need-element-copy-out-row Inv-loop μ-loop
-element-copy-out-row c = omega (arith, c .before .loop .inv .enough .rows)
-
-cast-end : tie.Need-cast-end Inv-loop μ-loop
-cast-end c = search needs
-
 -- the row's bounds end within those that are lent, which are no more than a table's times
 bounds-end : (c : tie.In-loop Inv-loop μ-loop)
     → (c .before .loop .used + getD (c .before .before .before .before .args .t4 .rows) (c .before .loop .i) zeroRow .parts
@@ -113,43 +102,17 @@ bounds-end c =
     let next = left-next k (c .loop-test .taken) _ refl in
     (omega (arith, next), omega (arith, next, k .enough .most))
 
-add-end : tie.Need-add-end Inv-loop μ-loop
-add-end c = omega (arith, bounds-end (c .before .before))
-
-mul-put-row : tie.Need-mul-put-row Inv-loop μ-loop
-mul-put-row c = omega (arith, bounds-end (c .before .before .before))
-
-sub-put-row : tie.Need-sub-put-row Inv-loop μ-loop
-sub-put-row c = omega arith
-
-part-put-row-start : tie.Need-part-put-row-start Inv-loop μ-loop
-part-put-row-start c = omega (arith, bounds-end (c .before .before .before))
-
-part-put-row-end : tie.Need-part-put-row-end Inv-loop μ-loop
-part-put-row-end c = omega (arith, bounds-end (c .before .before .before))
-
 put-row-requires : tie.Need-put-row-requires Inv-loop μ-loop
-unfolding own row
 put-row-requires c κs =
     let l = c .before .before .before .before in
     let k = l .before .loop .inv in
     (own-few k (l .loop-test .taken) _ refl, fits k (l .loop-test .taken) _ refl)
 
-add-i : tie.Need-add-i Inv-loop μ-loop
-add-i c = search needs
-
-loop-less : tie.Need-loop-less Inv-loop μ-loop
-loop-less c = search needs
-
 loop-again : tie.Need-loop-again Inv-loop μ-loop
-unfolding own row
 loop-again c =
     let call = c .before .before in
     let l = call .before .before .before .before .before in
     step (l .before .loop .inv) (l .loop-test .taken) _ refl (call .put-row .ensures)
-
-same-length : tie.Need-same-length Inv-loop μ-loop
-same-length c = search needs
 
 returns : tie.Need-returns Inv-loop μ-loop
 returns c = done (c .before .loop .inv) (c .loop-test .left)
@@ -161,17 +124,17 @@ put-rows-spec =
     Inv-loop
     μ-loop
     loop-holds
-    mul-row
-    element-copy-out-row
-    cast-end
-    add-end
-    mul-put-row
-    sub-put-row
-    part-put-row-start
-    part-put-row-end
+    (λ c. omega (arith, c .before .loop .inv .enough .rows))
+    (λ c. omega (arith, c .before .loop .inv .enough .rows))
+    (λ c. search needs)
+    (λ c. omega (arith, bounds-end (c .before .before)))
+    (λ c. omega (arith, bounds-end (c .before .before .before)))
+    (λ c. omega arith)
+    (λ c. omega (arith, bounds-end (c .before .before .before)))
+    (λ c. omega (arith, bounds-end (c .before .before .before)))
     put-row-requires
-    add-i
-    loop-less
+    (λ c. search needs)
+    (λ c. search needs)
     loop-again
-    same-length
+    (λ c. search needs)
     returns)

@@ -11,10 +11,11 @@ use Rattle.table.specs.Memory.{tasksOf}
 use Rattle.table.specs.Faults.{faultOf}
 use Rattle.files.specs.declared.Loaded.{Loaded}
 use Rattle.files.specs.Reading.{readAnswer}
+use Rattle.analysis.proofs.Tabled.{read-faultless}
 use Rattle.sheet.specs.Sheet.{fileLine, goodText, sheetText}
 use Rattle.text.specs.Promises.{Fits}
 use Rattle.text.proofs.Puts.{fits-as, put-as}
-use Rattle.sheet.proofs.Files.{refused-text, good-text, good-table, text-is-short}
+use Rattle.sheet.proofs.Files.{refused-text, good-text, text-is-short}
 use Rattle.sheet.proofs.put_sheet.Statement.{statement}
 use Rattle.sheet.proofs.put_sheet.Tie as tie
 
@@ -41,66 +42,47 @@ module _ {s : List ℕ} {l : Loaded} (r : Read s l) where
 
       -- whose table has no fault
       fine : codeOf (faultOf (l .table)) ≡ 0
-      fine = good-table s l (r .same) (sym code ∙ zero)
+      fine = read-faultless s l (r .same) (sym code ∙ zero)
 
 -- what is known once the file is read
 read-of : (c : tie.After-read) → Read (c .before .before .before .args .bytes .now) (c .read .result)
 read-of c = record { bytes = λ i. omega (arith, c .before .shared-slice-known .given i); few = search needs; same = c .read .ensures }
 
-read-requires : tie.Need-read-requires
-read-requires c κs = search needs
-
-code-of-requires : tie.Need-code-of-requires
-code-of-requires c κs = search needs
-
 put-file-line-requires : tie.Need-put-file-line-requires
 put-file-line-requires c κs =
-    let c1 = c .before in
-    let c2 = c1 .before in
-    let c3 = c2 .before in
-    let c6 = c3 .before .before .before in
-    fits-as (refused-line (read-of c3) (c2 .code-of .ensures) (c1 .if1 .taken)) (fits (read-of c3) (c6 .pre))
-
-same-length : tie.Need-same-length
-same-length c = search needs
+    let told = c .before .before in
+    let r = read-of (told .before) in
+    fits-as (refused-line r (told .code-of .ensures) (c .before .if1 .taken)) (fits r (told .before .before .before .before .pre))
 
 returns : tie.Need-returns
 returns c =
-    let c2 = c .before .before in
-    let c4 = c2 .before .before in
-    let c5 = c4 .before in
-    let c6 = c5 .before in
-    put-as (refused-line (read-of c6) (c5 .code-of .ensures) (c4 .if1 .taken)) (c2 .put-file-line .ensures)
+    let bad = c .before .before .before .before in
+    let told = bad .before in
+    put-as (refused-line (read-of (told .before)) (told .code-of .ensures) (bad .if1 .taken)) (c .before .before .put-file-line .ensures)
 
 put-cores-requires : tie.Need-put-cores-requires
 put-cores-requires c κs =
-    let c1 = c .before in
-    let c2 = c1 .before in
-    let c3 = c2 .before in
-    let c6 = c3 .before .before .before in
-    let r = read-of c3 in
-    (fine r (c2 .code-of .ensures) (c1 .if1 .left), fits-as (good-cores r (c2 .code-of .ensures) (c1 .if1 .left)) (fits r (c6 .pre)))
-
-same-length-2 : tie.Need-same-length-2
-same-length-2 c = search needs
+    let told = c .before .before in
+    let r = read-of (told .before) in
+    let zero = c .before .if1 .left in
+    let room = fits r (told .before .before .before .before .pre) in
+    (fine r (told .code-of .ensures) zero, fits-as (good-cores r (told .code-of .ensures) zero) room)
 
 returns-2 : tie.Need-returns-2
 returns-2 c =
-    let c2 = c .before .before in
-    let c4 = c2 .before .before in
-    let c5 = c4 .before in
-    let c6 = c5 .before in
-    put-as (good-cores (read-of c6) (c5 .code-of .ensures) (c4 .if1 .left)) (c2 .put-cores .ensures)
+    let good = c .before .before .before .before in
+    let told = good .before in
+    put-as (good-cores (read-of (told .before)) (told .code-of .ensures) (good .if1 .left)) (c .before .before .put-cores .ensures)
 
 pub put-sheet-spec : {M : Type 1} → statement M
 put-sheet-spec =
     tie.close
     (tie.spec
-    read-requires
-    code-of-requires
+    (λ c κs. search needs)
+    (λ c κs. search needs)
     put-file-line-requires
-    same-length
+    (λ c. search needs)
     returns
     put-cores-requires
-    same-length-2
+    (λ c. search needs)
     returns-2)

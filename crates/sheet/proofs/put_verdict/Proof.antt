@@ -1,90 +1,72 @@
 -- `sheet::put_verdict` meets its contract: two words, each with its number. Assumes nothing.
+use Prim.Native.Nat.{ℕ}
 use borrow.Author.Needs.{needs}
-use Rattle.text.specs.Text.{decimal}
-use Rattle.sheet.specs.Sheet.{codeWord, numberWord}
-use Rattle.text.proofs.Puts.{starts}
+use mathlib.Core.List.{List}
+use lib.ListN.{drop}
+use Rattle.text.specs.Text.{decimal, line}
+use Rattle.sheet.specs.Sheet.{codeWord, numberWord, verdictWords}
+use Rattle.text.proofs.Puts.{Putting, starts}
 use Rattle.text.proofs.Lines.{word-room, word-turn, end-room, end-put}
 use Rattle.sheet.proofs.put_verdict.Statement.{statement}
 use Rattle.sheet.proofs.put_verdict.Tie as tie
 
-code-of-requires : tie.Need-code-of-requires
-code-of-requires c κs = search needs
+-- the function's entry, as its first call of a writer leaves it
+abbrev entry : tie.After-put-word → tie.Start
+entry c = c .before .before .before .before .before .before
 
-number-of-requires : tie.Need-number-of-requires
-number-of-requires c κs = search needs
+-- from word n of the line on, all is left to put, at p
+abbrev Left : tie.After-put-word → ℕ → List ℕ → ℕ → Type 0
+Left c n out p =
+    let s = entry c .args in
+    Putting (line (verdictWords (s .v))) (s .out .now) (s .at) out p (line (drop n (verdictWords (s .v))))
 
-slice-aggregate-put-word : tie.Need-slice-aggregate-put-word
-slice-aggregate-put-word c = search needs
+-- `code` is put
+word-put : (c : tie.After-put-word) → Left c 1 (c .put-word .last .0) (c .put-word .result)
+word-put c = word-turn codeWord _ _ (starts _ _ _ (entry c .pre)) (c .put-word .ensures)
+
+-- then the code
+code-put : (c : tie.After-put-decimal) → Left (c .before .before .before .before) 2 (c .put-decimal .last .0) (c .put-decimal .result)
+code-put c =
+    let w = c .before .before .before .before in
+    word-turn (decimal _) _ _ (word-put w) (rw (w .before .before .before .before .code-of .ensures) at (c .put-decimal .ensures))
+
+-- then `number`
+both-put : (c : tie.After-put-word2)
+    → Left (c .before .before .before .before .before .before .before .before .before) 3 (c .put-word2 .last .0) (c .put-word2 .result)
+both-put c = word-turn numberWord _ _ (code-put (c .before .before .before .before .before)) (c .put-word2 .ensures)
 
 put-word-requires : tie.Need-put-word-requires
 put-word-requires c κs = word-room codeWord _ _ (starts _ _ _ (c .before .before .before .before .before .pre))
 
-cast-put-decimal : tie.Need-cast-put-decimal
-cast-put-decimal c = search needs
-
 put-decimal-requires : tie.Need-put-decimal-requires
 put-decimal-requires c κs =
-    let c3 = c .before .before .before in
-    let c7 = c3 .before .before .before .before in
-    let c9 = c7 .before .before in
-    let k1 = word-turn codeWord _ _ (starts _ _ _ (c9 .pre)) (c3 .put-word .ensures) in
-    rw (c7 .code-of .ensures) (word-room (decimal _) _ _ k1)
-
-slice-aggregate-put-word-2 : tie.Need-slice-aggregate-put-word-2
-slice-aggregate-put-word-2 c = search needs
-
-put-word-requires-2 : tie.Need-put-word-requires-2
-put-word-requires-2 c κs =
-    let c4 = c .before .before .before .before in
-    let c8 = c4 .before .before .before .before in
-    let c12 = c8 .before .before .before .before in
-    let c14 = c12 .before .before in
-    let k1 = word-turn codeWord _ _ (starts _ _ _ (c14 .pre)) (c8 .put-word .ensures) in
-    let k2 = word-turn (decimal _) _ _ k1 (rw (c12 .code-of .ensures) at (c4 .put-decimal .ensures)) in
-    word-room numberWord _ _ k2
+    let w = c .before .before .before in
+    rw (w .before .before .before .before .code-of .ensures) (word-room (decimal _) _ _ (word-put w))
 
 put-decimal-requires-2 : tie.Need-put-decimal-requires-2
 put-decimal-requires-2 c κs =
-    let c3 = c .before .before .before in
-    let c8 = c3 .before .before .before .before .before in
-    let c12 = c8 .before .before .before .before in
-    let c15 = c12 .before .before .before in
-    let c16 = c15 .before in
-    let c18 = c16 .before .before in
-    let k1 = word-turn codeWord _ _ (starts _ _ _ (c18 .pre)) (c12 .put-word .ensures) in
-    let k2 = word-turn (decimal _) _ _ k1 (rw (c16 .code-of .ensures) at (c8 .put-decimal .ensures)) in
-    let k3 = word-turn numberWord _ _ k2 (c3 .put-word2 .ensures) in
-    rw (c15 .number-of .ensures) (end-room (decimal _) k3)
-
-same-length : tie.Need-same-length
-same-length c = search needs
+    let w = c .before .before .before in
+    rw (w .before .before .before .before .before .before .before .before .before .before .before .before .number-of .ensures)
+    (end-room (decimal _) (both-put w))
 
 returns : tie.Need-returns
 returns c =
-    let c2 = c .before .before in
-    let c6 = c2 .before .before .before .before in
-    let c11 = c6 .before .before .before .before .before in
-    let c15 = c11 .before .before .before .before in
-    let c18 = c15 .before .before .before in
-    let c19 = c18 .before in
-    let c21 = c19 .before .before in
-    let k1 = word-turn codeWord _ _ (starts _ _ _ (c21 .pre)) (c15 .put-word .ensures) in
-    let k2 = word-turn (decimal _) _ _ k1 (rw (c19 .code-of .ensures) at (c11 .put-decimal .ensures)) in
-    let k3 = word-turn numberWord _ _ k2 (c6 .put-word2 .ensures) in
-    end-put (decimal _) k3 (rw (c18 .number-of .ensures) at (c2 .put-decimal2 .ensures))
+    let w = c .before .before .before .before .before .before in
+    let number = w .before .before .before .before .before .before .before .before .before .before .before .before .number-of in
+    end-put (decimal _) (both-put w) (rw (number .ensures) at (c .before .before .put-decimal2 .ensures))
 
 pub put-verdict-spec : {M : Type 1} → statement M
 put-verdict-spec =
     tie.close
     (tie.spec
-    code-of-requires
-    number-of-requires
-    slice-aggregate-put-word
+    (λ c κs. search needs)
+    (λ c κs. search needs)
+    (λ c. search needs)
     put-word-requires
-    cast-put-decimal
+    (λ c. search needs)
     put-decimal-requires
-    slice-aggregate-put-word-2
-    put-word-requires-2
+    (λ c. search needs)
+    (λ c κs. word-room numberWord _ _ (code-put (c .before .before .before .before)))
     put-decimal-requires-2
-    same-length
+    (λ c. search needs)
     returns)

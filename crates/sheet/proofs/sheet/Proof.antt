@@ -60,47 +60,27 @@ worked-here c =
     let bytes = c .before .before .before .shared-slice-known .given in
     worked (λ i. omega (arith, bytes i)) (search needs) (search needs) (c .put-sheet .ensures)
 
-slice-aggregate-put-sheet : tie.Need-slice-aggregate-put-sheet
-slice-aggregate-put-sheet c = search needs
-
-put-sheet-requires : tie.Need-put-sheet-requires
-put-sheet-requires c κs = search needs
-
-refused-requires : tie.Need-refused-requires
-refused-requires c κs = search needs
-
 returns : tie.Need-returns
 returns c = short (worked-here (c .before .before .before)) (c .before .if1 .taken) (c .refused .ensures)
-
-array-share-prefix-text : tie.Need-array-share-prefix-text
-array-share-prefix-text c = worked-here (c .before .before .before) .within
-
-slice-aggregate-put-bytes : tie.Need-slice-aggregate-put-bytes
-slice-aggregate-put-bytes c = sym (length-take-le _ _ (worked-here (c .before .before .before .before) .within))
 
 put-bytes-requires : tie.Need-put-bytes-requires
 put-bytes-requires c κs = fits (worked-here (c .before .before .before .before)) (c .before .before .if1 .left)
 
-same-length : tie.Need-same-length
-same-length c = search needs
-
 returns-2 : tie.Need-returns-2
 returns-2 c =
-    let c2 = c .before .before in
-    let c5 = c2 .before .before .before in
-    let c7 = c5 .before .before in
-    done (worked-here (c7)) (c5 .if1 .left) (c2 .put-bytes .ensures)
+    let roomy = c .before .before .before .before .before in
+    done (worked-here (roomy .before .before)) (roomy .if1 .left) (c .before .before .put-bytes .ensures)
 
 pub sheet-spec : {M : Type 1} → statement M
 sheet-spec =
     tie.close
     (tie.spec
-    slice-aggregate-put-sheet
-    put-sheet-requires
-    refused-requires
+    (λ c. search needs)
+    (λ c κs. search needs)
+    (λ c κs. search needs)
     returns
-    array-share-prefix-text
-    slice-aggregate-put-bytes
+    (λ c. worked-here (c .before .before .before) .within)
+    (λ c. sym (length-take-le _ _ (worked-here (c .before .before .before .before) .within)))
     put-bytes-requires
-    same-length
+    (λ c. search needs)
     returns-2)
