@@ -38,7 +38,7 @@ fn put_bound(out: &mut [u8], at: usize, core: u32, row: Row, r: u32, bound: u32)
 }
 
 // Writes the lines of a row, one for each of its bounds.
-fn put_row(out: &mut [u8], at: usize, core: u32, row: Row, bounds: &[u32]) -> usize
+fn put_lines(out: &mut [u8], at: usize, core: u32, row: Row, bounds: &[u32]) -> usize
     requires { ⌜ (length (now bounds) ≤ 1024) × Fits (rowText core row (now bounds)) at (now out) ⌝ }
     ensures { λ r. ⌜ PutAt (rowText core row (now (bounds .entry))) at (now (out .entry)) r (now (out .exit)) ⌝ }
 {
@@ -63,7 +63,7 @@ fn put_rows(out: &mut [u8], at: usize, core: u32, own: Table, bounds: &[u32]) ->
     while i < n {
         let row = own.rows[i];
         let end = used + row.parts as usize;
-        p = put_row(out, p, core, row, &bounds[used..end]);
+        p = put_lines(out, p, core, row, &bounds[used..end]);
         used = end;
         i += 1;
     }

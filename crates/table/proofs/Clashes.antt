@@ -50,7 +50,8 @@ module _ {A : Type 0} (f : A → A → Bool) (rows : List A) (d : A) (i : ℕ) w
     looked : j < i → Inner f rows (getD rows i d) i j
         → any (f (getD rows i d)) (take i rows)
         ≡ pick (f (getD rows i d) (getD rows j d)) true (any (f (getD rows i d)) (drop (j + 1) (take i rows)))
-    looked h e = e ∙ any-step (f (getD rows i d)) (take i rows) d j (rw (length-take-le i rows (omega arith)) h) ∙ rw (getD-take i rows j d h)
+    looked h e =
+        e ∙ any-step (f (getD rows i d)) (take i rows) d j (rw (length-take-le i rows (omega arith)) h) ∙ rw (getD-take i rows j d h)
 
     -- it does not clash
     pub inner-next : j < i → f (getD rows i d) (getD rows j d) ≡ false

@@ -1,7 +1,6 @@
 -- `sheet::put_analysed` meets its contract: what analysis gives for the core is what its text prints. Assumes nothing.
 use borrow.Author.Needs.{needs}
-use mathlib.Core.Path.{_≡_, refl, sym, ap, subst, _∙_}
-use lib.ListN.{length}
+use mathlib.Core.Path.{_≡_, refl, sym, ap, _∙_}
 use Rattle.model.specs.Bounds.{onCore}
 use Rattle.table.specs.Memory.{tasksOf}
 use Rattle.table.proofs.Rows.{length-mapped}

@@ -102,8 +102,8 @@ bounds-end c =
     let next = left-next k (c .loop-test .taken) _ refl in
     (omega (arith, next), omega (arith, next, k .enough .most))
 
-put-row-requires : tie.Need-put-row-requires Inv-loop μ-loop
-put-row-requires c κs =
+put-lines-requires : tie.Need-put-lines-requires Inv-loop μ-loop
+put-lines-requires c κs =
     let l = c .before .before .before .before in
     let k = l .before .loop .inv in
     (own-few k (l .loop-test .taken) _ refl, fits k (l .loop-test .taken) _ refl)
@@ -112,7 +112,7 @@ loop-again : tie.Need-loop-again Inv-loop μ-loop
 loop-again c =
     let call = c .before .before in
     let l = call .before .before .before .before .before in
-    step (l .before .loop .inv) (l .loop-test .taken) _ refl (call .put-row .ensures)
+    step (l .before .loop .inv) (l .loop-test .taken) _ refl (call .put-lines .ensures)
 
 returns : tie.Need-returns Inv-loop μ-loop
 returns c = done (c .before .loop .inv) (c .loop-test .left)
@@ -132,7 +132,7 @@ put-rows-spec =
     (λ c. omega arith)
     (λ c. omega (arith, bounds-end (c .before .before .before)))
     (λ c. omega (arith, bounds-end (c .before .before .before)))
-    put-row-requires
+    put-lines-requires
     (λ c. search needs)
     (λ c. search needs)
     loop-again

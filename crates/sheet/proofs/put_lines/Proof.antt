@@ -1,4 +1,4 @@
--- `sheet::put_row` meets its contract: a line for each bound. Assumes nothing.
+-- `sheet::put_lines` meets its contract: a line for each bound. Assumes nothing.
 use Prim.Native.Nat.{ℕ, _+_, _-_}
 use native.Mathlib.Omega.{arith}
 use borrow.Author.Needs.{needs}
@@ -9,8 +9,8 @@ use Rattle.lists.specs.Lists.{each, upTo}
 use Rattle.sheet.specs.Sheet.{boundLine}
 use Rattle.sheet.specs.Promises.{rowText}
 use Rattle.text.proofs.Puts.{Putting, starts, piece-room, piece-turn, pieces-end}
-use Rattle.sheet.proofs.put_row.Statement.{statement}
-use Rattle.sheet.proofs.put_row.Tie as tie
+use Rattle.sheet.proofs.put_lines.Statement.{statement}
+use Rattle.sheet.proofs.put_lines.Tie as tie
 
 -- the line of bound r
 bound-at : ℕ → Row → List ℕ → ℕ → List ℕ
@@ -42,8 +42,8 @@ loop-again c =
 returns : tie.Need-returns Inv-loop μ-loop
 returns c = pieces-end _ _ _ (c .before .loop .inv) (c .loop-test .left)
 
-pub put-row-spec : {M : Type 1} → statement M
-put-row-spec =
+pub put-lines-spec : {M : Type 1} → statement M
+put-lines-spec =
     tie.close
     (tie.spec
     Inv-loop
