@@ -17,7 +17,7 @@ use Rattle.demands.proofs.Answer.{read-says}
 use Rattle.lists.proofs.EachPlaces.{place-left}
 use Rattle.demands.proofs.Placed.{place-made, time-placed}
 use Rattle.table.proofs.Stored.{times-count}
-use Rattle.demands.proofs.Opened.{bytes-read}
+use Rattle.sheet.proofs.Opened.{bytes-read}
 
 -- no rows is a good table
 pub no-rows-is-good : NoRowsIsGood

@@ -16,7 +16,6 @@ pub mod Passed
 pub mod Demand2
 pub mod Demand3
 pub mod Codes
-pub mod Opened
 pub mod GoodRows
 pub mod AfterReading
 pub mod SampleB

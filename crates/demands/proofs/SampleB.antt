@@ -14,7 +14,7 @@ use Rattle.files.specs.Reading.{decode}
 use Rattle.analysis.specs.Analysis.{Analyses}
 use Rattle.sheet.specs.Sheet.{coreText, goodText, textOf, sheetText}
 use Rattle.demands.specs.SampleB.{task41, task43, tasksB, bytesB, text0, text1, text2, text3, reportB, refusedLine, SampleB}
-use Rattle.demands.proofs.Opened.{bytes-read, sides, bounds-found, core-judged, answer-given, lines-made, text-made}
+use Rattle.sheet.proofs.Opened.{bytes-read, sides, bounds-found, core-judged, answer-given, lines-made, text-made}
 
 -- the bytes are the tasks
 reads : decode bytesB ≡ go tasksB 74

@@ -8,7 +8,7 @@ use Rattle.fields.specs.Stepping.{go}
 use Rattle.files.specs.Reading.{decode}
 use Rattle.analysis.specs.Analysis.{Analyses}
 use Rattle.demands.specs.Samples.{bytesA, Samples}
-use Rattle.demands.proofs.Opened.{bytes-read, core-said, answer-given}
+use Rattle.sheet.proofs.Opened.{bytes-read, core-said, answer-given}
 
 -- Set A's 27 bytes are Set A
 read-a : decode (bytesA 20) ≡ go (setA 20) 27
