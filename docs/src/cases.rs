@@ -2,10 +2,10 @@
 
 use crate::damage::last_count;
 use crate::draws::Draws;
+use crate::files::Named;
 use crate::good::{good, largest, FULL};
 use crate::numbers::{joined, numbers, FIELDS};
 use crate::table::{file, row, shortest, Row, LIMIT};
-use crate::Named;
 
 fn hex(text: &str) -> Vec<u8> {
     text.split_whitespace()

@@ -1,5 +1,6 @@
 //! What a run covered.
 
+use crate::compare::Gathered;
 use crate::effort::{window, MOST_STEPS};
 use crate::numbers::{rows_met, walk, FIELDS, LOOKED_AT};
 use crate::Run;
@@ -18,6 +19,30 @@ pub struct Coverage {
     jobs: u64,
     pub unanswered: u64,
     given_up: BTreeMap<&'static str, u64>,
+}
+
+impl Gathered for Coverage {
+    fn join(&mut self, other: Self) {
+        let pairs = self.files.iter_mut().zip(other.files);
+        let pairs = pairs.chain(self.cores.iter_mut().zip(other.cores));
+        let faults = self
+            .faults
+            .iter_mut()
+            .flatten()
+            .zip(other.faults.into_iter().flatten());
+        pairs.chain(faults).for_each(|(sum, more)| *sum += more);
+        self.rows = self.rows.max(other.rows);
+        self.times = self.times.max(other.times);
+        self.bytes = self.bytes.max(other.bytes);
+        self.window = self.window.max(other.window);
+        self.jobs = self.jobs.max(other.jobs);
+        self.unanswered += other.unanswered;
+        for (name, count) in other.given_up {
+            self.add_given_up(name, count);
+        }
+        let found = [self.difference.take(), other.difference];
+        self.difference = found.into_iter().flatten().min_by_key(|run| run.index);
+    }
 }
 
 impl Coverage {
@@ -72,28 +97,6 @@ impl Coverage {
                 self.jobs = self.jobs.max(length.div_ceil(row.period));
             }
         }
-    }
-
-    pub fn join(&mut self, other: Coverage) {
-        let pairs = self.files.iter_mut().zip(other.files);
-        let pairs = pairs.chain(self.cores.iter_mut().zip(other.cores));
-        let faults = self
-            .faults
-            .iter_mut()
-            .flatten()
-            .zip(other.faults.into_iter().flatten());
-        pairs.chain(faults).for_each(|(sum, more)| *sum += more);
-        self.rows = self.rows.max(other.rows);
-        self.times = self.times.max(other.times);
-        self.bytes = self.bytes.max(other.bytes);
-        self.window = self.window.max(other.window);
-        self.jobs = self.jobs.max(other.jobs);
-        self.unanswered += other.unanswered;
-        for (name, count) in other.given_up {
-            self.add_given_up(name, count);
-        }
-        let found = [self.difference.take(), other.difference];
-        self.difference = found.into_iter().flatten().min_by_key(|run| run.index);
     }
 
     pub fn print(&self) {

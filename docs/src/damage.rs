@@ -2,13 +2,13 @@
 
 use crate::draws::Draws;
 use crate::effort::quick;
+use crate::files::Named;
 use crate::good::{good, largest, lay_out, LARGE, LONG, MIDDLE, MOST_TIMES, SMALL, TINY};
 use crate::numbers::{joined, numbers, rows_met, Number, FIELDS};
 use crate::table::{file, shortest, Row, LIMIT};
-use crate::Named;
 
 /// A good table with at least one row, mostly a small one, to be damaged.
-fn victim(draws: &mut Draws) -> Vec<Row> {
+pub fn victim(draws: &mut Draws) -> Vec<Row> {
     let shape = draws.pick(&[&TINY, &TINY, &SMALL, &SMALL, &SMALL, &MIDDLE, &LONG, &LARGE]);
     good(draws, shape)
 }
@@ -54,7 +54,7 @@ fn put_outside(draws: &mut Draws, numbers: &mut [Number]) {
 }
 
 /// Makes rows clash, up to three times: id, priority, or type.
-fn make_clash(draws: &mut Draws, table: &mut [Row]) {
+pub fn make_clash(draws: &mut Draws, table: &mut [Row]) {
     for _ in 0..draws.between(1, 3) {
         let (from, to) = (draws.below(table.len()), draws.below(table.len()));
         let Row {
@@ -71,8 +71,8 @@ fn make_clash(draws: &mut Draws, table: &mut [Row]) {
     }
 }
 
-/// A table whose part counts reach 1,024 or go above, and perhaps a second fault near the place.
-fn too_many_times(draws: &mut Draws) -> Vec<u8> {
+/// A table whose part counts reach 1,024 or go above.
+pub fn crowded(draws: &mut Draws) -> Vec<Row> {
     let mut table = lay_out(draws, (17, 64));
     let mut left = MOST_TIMES + draws.pick(&[0, 0, 1, 1, 20]);
     let least = left.div_ceil(table.len() as u64);
@@ -84,6 +84,12 @@ fn too_many_times(draws: &mut Draws) -> Vec<u8> {
         row.deadline = draws.between(1, LIMIT);
         row.times = (0..parts).map(|_| draws.any_size(1, LIMIT)).collect();
     }
+    table
+}
+
+/// A table whose part counts reach 1,024 or go above, and perhaps a second fault near the place.
+fn too_many_times(draws: &mut Draws) -> Vec<u8> {
+    let table = crowded(draws);
     let mut numbers = numbers(&table);
     if draws.one_in(4) {
         let late = numbers.len() / 4 * 3;

@@ -2,6 +2,15 @@
 
 use crate::splitmix::Random;
 
+/// The seed among the last words of a command line: 1 if there is none.
+pub fn seed(words: &[String]) -> Option<u64> {
+    match words {
+        [] => Some(1),
+        [seed] => seed.parse().ok(),
+        _ => None,
+    }
+}
+
 pub struct Draws {
     random: Random,
     /// How often no fitting table was found, and a table of one row taken in its place.
@@ -14,6 +23,12 @@ impl Draws {
             random: Random(seed),
             given_up: 0,
         }
+    }
+
+    /// The draws of case number `index`: the same in every run with the same seed.
+    pub fn of_case(seed: u64, index: usize) -> Draws {
+        let start = Draws::seeded((seed << 32) ^ index as u64).next();
+        Draws::seeded(start)
     }
 
     pub fn next(&mut self) -> u64 {

@@ -4,138 +4,12 @@
 //!
 //! Build: rustc -O --edition 2021 docs/src/second.rs -o target/second
 
-use std::io::{Read, Write};
+mod second_table;
 
-const MOST_ROWS: u64 = 64;
-const MOST_TIMES: u64 = 1_024;
-/// The largest period, deadline and time, and the limit of a window.
-const LIMIT: u64 = 16_777_215;
-const BYTES_LOOKED_AT: u64 = 5_124;
+use second_table::{input, read, Refusal, Row, FILE_LOOKED_AT, LIMIT, PREEMPTIVE};
+use std::io::Write;
+
 const CORES: u64 = 4;
-const PREEMPTIVE: u64 = 0;
-const COOPERATIVE: u64 = 1;
-
-/// One task.
-struct Row {
-    id: u64,
-    core: u64,
-    kind: u64,
-    priority: u64,
-    period: u64,
-    deadline: u64,
-    times: Vec<u64>,
-}
-
-/// A code and the number it carries.
-struct Refusal {
-    code: u64,
-    number: u64,
-}
-
-fn refuse<T>(code: u64, number: usize) -> Result<T, Refusal> {
-    Err(Refusal {
-        code,
-        number: number as u64,
-    })
-}
-
-// ---- The file ----
-
-/// The file's bytes and the offset reached.
-struct File<'a> {
-    bytes: &'a [u8],
-    at: usize,
-}
-
-impl File<'_> {
-    /// The next number, in its range: codes 1, 2 and 3.
-    fn number(&mut self, least: u64, most: u64) -> Result<u64, Refusal> {
-        let first = self.at;
-        let value = self.any_number()?;
-        if value < least || value > most {
-            return refuse(3, first);
-        }
-        Ok(value)
-    }
-
-    /// Groups of seven bits, low group first, at most four: codes 1 and 2.
-    fn any_number(&mut self) -> Result<u64, Refusal> {
-        let first = self.at;
-        let mut value = 0;
-        for group in 0..4 {
-            let Some(&byte) = self.bytes.get(self.at) else {
-                return refuse(1, self.bytes.len());
-            };
-            self.at += 1;
-            value += u64::from(byte % 128) << (7 * group);
-            if byte == 0 && group > 0 {
-                return refuse(2, first);
-            }
-            if byte < 128 {
-                return Ok(value);
-            }
-        }
-        refuse(2, first)
-    }
-
-    /// One row; `total` counts the times of all rows so far: code 7.
-    fn row(&mut self, total: &mut u64) -> Result<Row, Refusal> {
-        let mut row = Row {
-            id: self.number(1, 65_535)?,
-            core: self.number(0, 3)?,
-            kind: self.number(PREEMPTIVE, COOPERATIVE)?,
-            priority: self.number(1, 255)?,
-            period: self.number(1, LIMIT)?,
-            deadline: self.number(1, LIMIT)?,
-            times: Vec::new(),
-        };
-        let offset = self.at;
-        let count = self.number(1, 64)?;
-        *total += count;
-        if *total > MOST_TIMES {
-            return refuse(7, offset);
-        }
-        for _ in 0..count {
-            row.times.push(self.number(1, LIMIT)?);
-        }
-        Ok(row)
-    }
-}
-
-/// The whole file: 1, 2, 3, 7 in file order, then 8, then 4, 5, 6.
-fn read(bytes: &[u8]) -> Result<Vec<Row>, Refusal> {
-    let mut file = File { bytes, at: 0 };
-    let count = file.number(0, MOST_ROWS)?;
-    let mut rows = Vec::new();
-    let mut total = 0;
-    for _ in 0..count {
-        rows.push(file.row(&mut total)?);
-    }
-    if file.at < bytes.len() {
-        return refuse(8, file.at);
-    }
-    clash(&rows, 4, |a, b| a.id == b.id)?;
-    clash(&rows, 5, |a, b| {
-        a.core == b.core && a.priority == b.priority
-    })?;
-    clash(&rows, 6, |a, b| upside_down(a, b) || upside_down(b, a))?;
-    Ok(rows)
-}
-
-/// Refuses with the first row that clashes with an earlier row.
-fn clash(rows: &[Row], code: u64, clashing: fn(&Row, &Row) -> bool) -> Result<(), Refusal> {
-    for (place, row) in rows.iter().enumerate() {
-        if rows[..place].iter().any(|earlier| clashing(earlier, row)) {
-            return refuse(code, place);
-        }
-    }
-    Ok(())
-}
-
-/// A cooperative row above a preemptive one on the same core.
-fn upside_down(a: &Row, b: &Row) -> bool {
-    a.core == b.core && a.kind == COOPERATIVE && b.kind == PREEMPTIVE && a.priority > b.priority
-}
 
 // ---- The bounds ----
 
@@ -314,10 +188,7 @@ fn report(bytes: &[u8]) -> String {
 }
 
 fn main() {
-    let mut bytes = Vec::new();
-    // A failing read leaves what came before it, and that is judged; a failing write is left.
-    let _ = std::io::stdin()
-        .take(BYTES_LOOKED_AT)
-        .read_to_end(&mut bytes);
-    let _ = std::io::stdout().write_all(report(&bytes).as_bytes());
+    let report = report(&input(FILE_LOOKED_AT));
+    // A failing write is left.
+    let _ = std::io::stdout().write_all(report.as_bytes());
 }

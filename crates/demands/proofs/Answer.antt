@@ -5,7 +5,7 @@ use borrow.Author.Tests.{eq-eqb, ne-eqb}
 use mathlib.Core.Path.{_≡_, sym, ap, subst, _∙_}
 use mathlib.Core.Logic.{_⊎_, inl, inr, ⊎-elim}
 use mathlib.Core.Bool.{true, false}
-use mathlib.Core.List.{List, []}
+use mathlib.Core.List.{List}
 use lib.ListN.{length}
 use Rattle.lists.specs.Lists.{over}
 use Rattle.lists.proofs.Overs.{over-length}
@@ -13,7 +13,6 @@ use Rattle.model.specs.Task.{Task}
 use Rattle.model.specs.Bounds.{onCore}
 use Rattle.table.specs.declared.Verdict.{Verdict}
 use Rattle.table.specs.Verdicts.{codeOf}
-use Rattle.table.specs.Memory.{stored}
 use Rattle.table.proofs.ReadingCodes.{RefusedReading, refused-not-0, refused-not-12}
 use Rattle.files.specs.Reading.{decode, readAnswer}
 use Rattle.analysis.specs.declared.Analysed.{Analysed}
@@ -22,6 +21,7 @@ use Rattle.analysis.proofs.BoundsPut.{bounds-length}
 use Rattle.analysis.specs.Analysis.{needed, coreBounds, coreSaid, writes, answered, roomAfter, Gives, fileSaid, fileRows, Analyses}
 use Rattle.demands.specs.Rules.{FileRule, GoodFile, AnalysisRule}
 use Rattle.demands.specs.Demand1.{Bounds, AnswerSays, Reads}
+use Rattle.demands.proofs.Said.{said-exactly, zeros-said}
 use Rattle.demands.proofs.FileRule.{reading-fault, good-read, by-rule, file-rule}
 use Rattle.demands.proofs.CoreRule.{rule-said, said-rule, written-code}
 use Rattle.demands.proofs.GoodFile.{core-good}
@@ -34,12 +34,11 @@ module _ (s : List ℕ) (core : ℕ) (room : ℕ) where
   unfolding fileSaid
   good-said g = rw (good-read g)
 
-  -- what is said a rule says
-  analysis-rule : AnalysisRule s core room (fileSaid (decode s) core room)
-  unfolding fileSaid
-  analysis-rule =
-      ⊎-elim (λ f. rw (f .1 .said) (AnalysisRule.reading (f .1 .rule) (reading-fault (f .1 .code))))
-      (λ g. rw (good-said (g .file)) (AnalysisRule.analysed (g .file) (said-rule core _ room (core-good core (g .file) .distinct))))
+  -- some rule holds
+  some-analysis : (v : Verdict) × AnalysisRule s core room v
+  some-analysis =
+      ⊎-elim (λ f. (f .0, AnalysisRule.reading (f .1 .rule) (reading-fault (f .1 .code))))
+      (λ g. (_, AnalysisRule.analysed (g .file) (said-rule core _ room (core-good core (g .file) .distinct))))
       (file-rule s)
 
   -- what a rule says is said
@@ -50,31 +49,21 @@ module _ (s : List ℕ) (core : ℕ) (room : ℕ) where
 
 -- the verdict of reading alone
 module _ (s : List ℕ) where
-  -- what is said a rule says
-  read-rule : FileRule s (readAnswer s .verdict)
-  unfolding readAnswer
-  read-rule =
-      ⊎-elim (λ f. rw (f .1 .said) (f .1 .rule)) (λ g. rw (good-read (g .file)) (FileRule.table (g .file .whole) (g .file .apart)))
-      (file-rule s)
+  -- some rule holds
+  some-read : (v : Verdict) × FileRule s v
+  some-read =
+      ⊎-elim (λ f. (f .0, f .1 .rule)) (λ g. (_, FileRule.table (g .file .whole) (g .file .apart))) (file-rule s)
 
   -- what a rule says is said
   rule-read : {v : Verdict} → FileRule s v → readAnswer s .verdict ≡ v
   unfolding readAnswer
   rule-read r = ⊎-elim (λ g. rw (good-read (g .1 .file)) (sym (g .0))) (λ f. rw (f .said)) (by-rule r)
 
-  -- a refused read gives zeros
-  read-zeros : (codeOf (readAnswer s .verdict) ≡ 0 → ⊥) → readAnswer s .table ≡ stored []
-  unfolding readAnswer
-  read-zeros n = ⊎-elim (λ f. rw (f .1 .said)) (λ g. absurd (n (rw (good-read (g .file))))) (file-rule s)
-
-  -- a good one the file's tasks
-  read-rows : (tasks : List Task) → GoodFile s tasks → readAnswer s .table ≡ stored tasks
-  unfolding readAnswer
-  read-rows tasks g = rw (good-read g)
-
   -- all together
   pub read-says : Reads s
-  read-says = record { codes = λ v. (λ e. subst (FileRule s) e read-rule, rule-read); zeros = read-zeros; rows = read-rows }
+  unfolding readAnswer
+  read-says =
+      record { codes = said-exactly (λ v. rule-read) some-read; zeros = zeros-said (decode s); rows = λ tasks g. rw (good-read g) }
 
 -- ---- the room
 
@@ -145,10 +134,7 @@ module _ (s : List ℕ) (core : ℕ) (room : List ℕ) (r : Analysed) (room′ :
   answer-says =
       let e : r .verdict ≡ v = said v _ room r room′ a in
       record {
-        codes = λ u. (
-          λ q. subst (AnalysisRule s core (length room)) (sym e ∙ q) (analysis-rule s core (length room)),
-          λ q. e ∙ rule-analysis s core (length room) q,
-        );
+        codes = said-exactly (λ u q. e ∙ rule-analysis s core (length room) q) (some-analysis s core (length room));
         kept = λ p q. stays v _ room r room′ a (keeps v (λ z. p (ap codeOf e ∙ z)) (λ z. q (ap codeOf e ∙ z)));
         written = λ w. core-written (subst WriteCode e w);
       }

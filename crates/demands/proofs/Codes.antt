@@ -1,4 +1,4 @@
--- The table of codes is document 01's. Assumes nothing.
+-- The table of codes is that of documents 01 and 02. Assumes nothing.
 use mathlib.Core.Path.{refl}
 use Rattle.demands.specs.Codes.{CodeTable}
 
@@ -19,4 +19,5 @@ code-table =
       code10 = λ n. (refl, refl);
       code11 = λ n. (refl, refl);
       code12 = λ n. (refl, refl);
+      code17 = λ n. (refl, refl);
     }

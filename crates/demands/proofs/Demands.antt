@@ -22,6 +22,8 @@ use Rattle.demands.proofs.AfterReading.{no-rows-is-good, after-reading}
 use Rattle.demands.proofs.Printing.{printing}
 use Rattle.demands.proofs.Samples.{samples}
 use Rattle.demands.proofs.SampleB.{sample-b}
+use Rattle.demands.proofs.TextSamples.{text-samples}
+use Rattle.demands.proofs.Texts.{texts}
 use Rattle.demands.proofs.Unique.{unique}
 
 -- of files
@@ -60,6 +62,7 @@ worked =
       marked = samples;
       setA = set-a-report;
       sampleB = sample-b;
+      texts = text-samples;
       machine = machine-sample;
       begun = begun-sample;
       periodic = periodic-allowed;
@@ -76,6 +79,7 @@ demands =
       tables = tables;
       files = files;
       sheets = sheets;
+      texts = texts;
       samples = worked;
       unique = unique;
     }

@@ -1,8 +1,15 @@
 pub mod Bytes
+pub mod Along
 pub mod Reached
 pub mod NumberRule
 pub mod ClashRule
+pub mod Said
 pub mod FileRule
+pub mod TextField
+pub mod TextFault
+pub mod FieldRule
+pub mod TextReached
+pub mod TextRule
 pub mod CoreRule
 pub mod GoodFile
 pub mod Tables
@@ -10,6 +17,7 @@ pub mod Unique
 pub mod Answer
 pub mod Demand1
 pub mod TableCodes
+pub mod Texts
 pub mod Placed
 pub mod Equations
 pub mod Passed
@@ -21,4 +29,6 @@ pub mod AfterReading
 pub mod SampleB
 pub mod Printing
 pub mod Samples
+pub mod Opened
+pub mod TextSamples
 pub mod Demands

@@ -3,7 +3,7 @@ use Prim.Native.Nat.{ℕ, _<_}
 use native.Mathlib.Omega.{arith}
 use borrow.Author.Tests.{lt-ltb, le-ltb}
 use mathlib.Core.Path.{_≡_, refl, subst}
-use mathlib.Core.Logic.{_⊎_, inl, inr, ⊎-elim}
+use mathlib.Core.Logic.{⊎-elim}
 use mathlib.Core.Bool.{false}
 use mathlib.Core.List.{List}
 use Rattle.lists.proofs.Tests.{either}
@@ -18,6 +18,7 @@ use Rattle.table.specs.Fields.{Wanted, judge}
 use Rattle.fields.specs.Stepping.{stop, unless, asked, fieldAt}
 use Rattle.fields.proofs.Taken.{stopped-not}
 use Rattle.table.proofs.ReadingCodes.{RefusedReading}
+use Rattle.demands.specs.Reached.{MayBe}
 use Rattle.demands.specs.Rules.{NumberRule}
 use Rattle.demands.proofs.Bytes.{cut-off, ill-formed}
 use Rattle.demands.proofs.Reached.{stands-read}
@@ -39,21 +40,32 @@ module _ (w : Wanted) (at x : ℕ) where
   unfolding judge
   over-judged r h = rw (le-ltb x (w .low) (r .least), le-ltb (w .high) x (r .most), lt-ltb (w .left) x h)
 
--- a number is in its range or not
-pub in-range : (w : Wanted) (x : ℕ) → Within (w .low) (w .high) x ⊎ (Within (w .low) (w .high) x → ⊥)
-in-range w x =
-    ⊎-elim (λ low. inr (λ r. omega (arith, r .least)))
-    (λ least. ⊎-elim (λ high. inr (λ r. omega (arith, r .most))) (λ most. inl (record { least = least; most = most })) (either (w .high) x))
+-- a number is out of its range, or above what is left, or what it may be
+pub data Judged (w : Wanted) (x : ℕ) : Type 0 where
+  out : (Within (w .low) (w .high) x → ⊥) → Judged w x
+  over : Within (w .low) (w .high) x → w .left < x → Judged w x
+  may : MayBe w x → Judged w x
+
+-- one of these
+pub judged : (w : Wanted) (x : ℕ) → Judged w x
+judged w x =
+    ⊎-elim (λ low. Judged.out (λ r. omega (arith, r .least)))
+    (λ least.
+    ⊎-elim (λ high. Judged.out (λ r. omega (arith, r .most)))
+    (λ most.
+    let range : Within (w .low) (w .high) x = record { least = least; most = most } in
+    ⊎-elim (λ h. Judged.over range h) (λ left. Judged.may (record { range = range; left = left })) (either (w .left) x))
+    (either (w .high) x))
     (either x (w .low))
 
 module _ (s : List ℕ) (w : Wanted) (at : ℕ) where
   -- a number that was got is refused with what is said of it
-  got-refused : (x next : ℕ) (v : Verdict) → numberAt s at ≡ N.Got x next → judge w at x ≡ v → good v ≡ false → fieldAt w s at ≡ stop v
+  got-refused : (x next : ℕ) (v : Verdict) → numberAt s at ≡ N.Got x next → judge w at x ≡ v → good v ≡ false → fieldAt s w at ≡ stop v
   unfolding fieldAt asked unless
   got-refused x next v e j f = rw (e, j, f)
 
   -- so the rule refuses
-  pub rule-refuses : {v : Verdict} → NumberRule s w at v → fieldAt w s at ≡ stop v
+  pub rule-refuses : {v : Verdict} → NumberRule s w at v → fieldAt s w at ≡ stop v
   unfolding fieldAt asked
   rule-refuses (NumberRule.cut c) = rw (cut-off s at .1 c)
   rule-refuses (NumberRule.ill i) = rw (ill-formed s at .1 i)
@@ -62,24 +74,22 @@ module _ (s : List ℕ) (w : Wanted) (at : ℕ) where
       got-refused x n (C.TooManyTimes at) e (over-judged w at x r h) (unfold good in refl)
 
   -- a refusal by one rule is that rule's
-  one-rule : {u : Verdict} (v : Verdict) → NumberRule s w at u → fieldAt w s at ≡ stop v → NumberRule s w at v
+  one-rule : {u : Verdict} (v : Verdict) → NumberRule s w at u → fieldAt s w at ≡ stop v → NumberRule s w at v
   one-rule {u} v r e = let e′ = rule-refuses r in let same : u ≡ v = cc in subst (NumberRule s w at) same r
 
   -- and each refusal is by a rule
-  pub refused-rule : (v : Verdict) → fieldAt w s at ≡ stop v → NumberRule s w at v
+  pub refused-rule : (v : Verdict) → fieldAt s w at ≡ stop v → NumberRule s w at v
   refused-rule v e = of-number (numberAt s at) refl
     where
+      of-judged : {x next : ℕ} → numberAt s at ≡ N.Got x next → Judged w x → NumberRule s w at v
+      of-judged q (Judged.out n) = one-rule v (NumberRule.out q n) e
+      of-judged q (Judged.over r h) = one-rule v (NumberRule.over q r h) e
+      of-judged q (Judged.may m) = stopped-not (fieldAt s w at) e (stands-read (record { number = q; may = m }))
+
       of-number : (x : Number) → numberAt s at ≡ x → NumberRule s w at v
       of-number N.EndsEarly q = one-rule v (NumberRule.cut (cut-off s at .0 q)) e
       of-number N.Malformed q = one-rule v (NumberRule.ill (ill-formed s at .0 q)) e
-      of-number (N.Got x next) q =
-          ⊎-elim
-          (λ r.
-          ⊎-elim (λ over. one-rule v (NumberRule.over q r over) e)
-          (λ room. stopped-not (fieldAt w s at) e (stands-read (record { number = q; may = record { range = r; left = room } })))
-          (either (w .left) x))
-          (λ out. one-rule v (NumberRule.out q out) e)
-          (in-range w x)
+      of-number (N.Got x next) q = of-judged q (judged w x)
 
   -- these are the codes 1, 2, 3 and 7
   pub number-code : {v : Verdict} → NumberRule s w at v → RefusedReading v

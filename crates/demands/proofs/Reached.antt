@@ -1,72 +1,64 @@
 -- How far reading gets, said without the reader, is how far the reader gets. Assumes nothing.
 use Prim.Native.Nat.{ℕ, zero, suc}
-use mathlib.Core.Path.{_≡_, refl, sym, ap, _∙_}
+use mathlib.Core.Path.{_≡_, _∙_}
 use mathlib.Core.Logic.{_⊎_, inl, inr, ⊎-elim}
-use mathlib.Core.List.{List, [], _∷_, _++_, append-assoc, append-nil}
+use mathlib.Core.List.{List, []}
 use Rattle.model.specs.Task.{Task}
-use Rattle.model.specs.Rows.{Within}
 use Rattle.table.specs.declared.Verdict.{Verdict}
+use Rattle.table.specs.declared.Verdict.the-variants.{Good}
 use Rattle.table.specs.Verdicts.{good}
-use Rattle.table.specs.Fields.{Wanted, field}
+use Rattle.table.specs.Fields.{Wanted, field, judge}
 use Rattle.table.proofs.Fine.{Fine, fine-good}
-use Rattle.fields.specs.Stepping.{Step, stop, go, _then_, unless, asked, fieldAt, fieldsAt}
+use Rattle.fields.specs.Stepping.{stop, go, _then_, unless, asked, fieldAt, fieldsAt, rowBy}
 use Rattle.files.specs.Reading.{rowAt, rowsAt, endAt, decode}
 use Rattle.fields.proofs.Taken.{field-read}
-use Rattle.demands.specs.Reached.{Stands, Along, Rows, Wants, itsFields, itsTimes}
+use Rattle.demands.specs.Reached.{MayBe, Stands, Rows, Wants, itsFields, itsTimes}
+use Rattle.demands.proofs.Along.{Agrees, AllStand, OneRefused, stopped-or-not, along-read, fields-reached}
+
+-- ---- one number
+
+-- what may be is fine
+pub may-fine : {w : Wanted} {x : ℕ} → MayBe w x → Fine w x
+may-fine m = record { least = m .range .least; most = m .range .most; room = m .left }
+
+-- so it is good
+pub may-good : (w : Wanted) (number x : ℕ) → MayBe w x → judge w number x ≡ Good
+may-good w number x m = fine-good w number x (may-fine m)
+
+-- and what is fine may be
+pub fine-may : {w : Wanted} {x : ℕ} → Fine w x → MayBe w x
+fine-may f = record { range = record { least = f .least; most = f .most }; left = f .room }
+
+-- a number that stands there is read
+pub stands-read : {s : List ℕ} {w : Wanted} {at v next : ℕ} → Stands s w at v next → fieldAt s w at ≡ go v next
+unfolding fieldAt asked unless good
+stands-read {w = w} {at = at} {v = v} n = rw (n .number, may-good w at v (n .may))
+
+-- a number that was read stands there
+read-stands : (s : List ℕ) (w : Wanted) (at v next : ℕ) → fieldAt s w at ≡ go v next → Stands s w at v next
+read-stands s w at v next e = let r = field-read s w at v next e in record { number = r .number; may = fine-may (r .fine) }
+
+-- so what stands in a file is what is read of it
+in-file : (s : List ℕ) → Agrees (Stands s) (fieldAt s)
+in-file s = record { read = stands-read; stands = read-stands s }
 
 -- ---- from the words to the reader
 
 module _ {s : List ℕ} where
-  -- a number that stands there is read
-  pub stands-read : {w : Wanted} {at v next : ℕ} → Stands s w at v next → fieldAt w s at ≡ go v next
-  unfolding fieldAt asked unless good
-  stands-read {w} {at} {v} {next} n =
-      let fine : Fine w v = record { least = n .may .range .least; most = n .may .range .most; room = n .may .left } in
-      rw (n .number, fine-good w at v fine)
-
-  -- reading goes on behind numbers that stand there
-  along-read : {ws others : List Wanted} {at n : ℕ} {vs : List ℕ} (done : List ℕ) → Along s ws at vs others n
-      → fieldsAt ws done s at ≡ fieldsAt others (done ++ vs) s n
-  unfolding fieldsAt _then_
-  along-read {ws} {at = at} done Along.here = ap (λ l. fieldsAt ws l s at) (sym (append-nil done))
-  along-read {others = others} {n = n} done (Along.more {v = v} {vs = vs} a l) =
-      rw (stands-read a) (along-read (done ++ (v ∷ [])) l ∙ ap (λ l. fieldsAt others l s n) (append-assoc done (v ∷ []) vs))
-
-  -- and behind rows
+  -- reading goes on behind rows
   pub rows-read : {k at : ℕ} {done : List Task} → Rows s k done at → decode s ≡ (rowsAt k done s at then endAt s)
-  unfolding decode rowsAt rowAt fieldsAt _then_
+  unfolding decode rowsAt rowAt rowBy fieldsAt _then_
   rows-read (Rows.none a) = rw (stands-read a)
-  rows-read (Rows.more r f t) = rows-read r ∙ rw (along-read [] f, along-read [] t)
+  rows-read (Rows.more r f t) = rows-read r ∙ rw (along-read (in-file s) [] f, along-read (in-file s) [] t)
 
   -- where the number wanted is refused, so is the file
-  pub wants-read : {at : ℕ} {w : Wanted} {v : Verdict} → Wants s at w → fieldAt w s at ≡ stop v → decode s ≡ stop v
-  unfolding decode rowsAt rowAt fieldsAt _then_
+  pub wants-read : {at : ℕ} {w : Wanted} {v : Verdict} → Wants s at w → fieldAt s w at ≡ stop v → decode s ≡ stop v
+  unfolding decode rowsAt rowAt rowBy fieldsAt _then_
   wants-read Wants.count e = rw e
-  wants-read (Wants.ofFields r f) e = rows-read r ∙ rw (along-read [] f, e)
-  wants-read (Wants.ofTimes r f t) e = rows-read r ∙ rw (along-read [] f, along-read [] t, e)
+  wants-read (Wants.ofFields r f) e = rows-read r ∙ rw (along-read (in-file s) [] f, e)
+  wants-read (Wants.ofTimes r f t) e = rows-read r ∙ rw (along-read (in-file s) [] f, along-read (in-file s) [] t, e)
 
 -- ---- from the reader to the words
-
--- numbers wanted from a place on: all of them stand there
-record AllStand (s : List ℕ) (ws : List Wanted) (at : ℕ) : Type 0 where
-  vs : List ℕ
-  n : ℕ
-  along : Along s ws at vs [] n
-
--- or one of them is refused
-record OneRefused (s : List ℕ) (ws : List Wanted) (at : ℕ) : Type 0 where
-  vs : List ℕ
-  w : Wanted
-  others : List Wanted
-  n : ℕ
-  v : Verdict
-  along : Along s ws at vs (w ∷ others) n
-  refused : fieldAt w s n ≡ stop v
-
--- a step stopped or went on
-stopped-or-not : {A : Type 0} (x : Step A) → ((v : Verdict) × (x ≡ stop v)) ⊎ ((a : A) × (n : ℕ) × (x ≡ go a n))
-stopped-or-not (stop v) = inl (v, refl)
-stopped-or-not (go a n) = inr (a, n, refl)
 
 -- the file stops at a number
 pub record AtNumber (s : List ℕ) : Type 0 where
@@ -74,7 +66,7 @@ pub record AtNumber (s : List ℕ) : Type 0 where
   pub w : Wanted
   pub v : Verdict
   pub wants : Wants s at w
-  pub refused : fieldAt w s at ≡ stop v
+  pub refused : fieldAt s w at ≡ stop v
 
 -- or all its rows stand there
 pub record AtEnd (s : List ℕ) : Type 0 where
@@ -89,50 +81,21 @@ record OneMore (s : List ℕ) (k : ℕ) : Type 0 where
   rows : Rows s k done at
 
 module _ (s : List ℕ) where
-  -- a number that was read stands there
-  read-stands : (w : Wanted) (at v next : ℕ) → fieldAt w s at ≡ go v next → Stands s w at v next
-  read-stands w at v next e =
-      let r = field-read w s at v next e in
-      let range : Within (w .low) (w .high) v = record { least = r .fine .least; most = r .fine .most } in
-      record { number = r .number; may = record { range = range; left = r .fine .room } }
-
-  -- one number after another
-  fields-reached : (ws : List Wanted) (at : ℕ) → AllStand s ws at ⊎ OneRefused s ws at
-  fields-reached [] at = inl (record { vs = []; n = at; along = Along.here })
-  fields-reached (w ∷ ws) at =
-      ⊎-elim (λ r. inr (record { vs = []; w = w; others = ws; n = at; v = r .0; along = Along.here; refused = r .1 }))
-      (λ r. on (r .0) (r .1) (read-stands w at (r .0) (r .1) (r .2)) (fields-reached ws (r .1)))
-      (stopped-or-not (fieldAt w s at))
-    where
-      on : (a m : ℕ) → Stands s w at a m → AllStand s ws m ⊎ OneRefused s ws m → AllStand s (w ∷ ws) at ⊎ OneRefused s (w ∷ ws) at
-      on a m e (inl f) = inl (record { vs = a ∷ f .vs; n = f .n; along = Along.more e (f .along) })
-      on a m e (inr f) =
-          inr
-          (record {
-            vs = a ∷ f .vs;
-            w = f .w;
-            others = f .others;
-            n = f .n;
-            v = f .v;
-            along = Along.more e (f .along);
-            refused = f .refused;
-          })
-
   -- a row
   row-reached : (k : ℕ) (done : List Task) (at : ℕ) → Rows s (suc k) done at → AtNumber s ⊎ OneMore s k
-  row-reached k done at r = ⊎-elim ofFields (λ f. inl (atFields f)) (fields-reached (itsFields done) at)
+  row-reached k done at r = ⊎-elim ofFields (λ f. inl (atFields f)) (fields-reached (in-file s) (itsFields done) at)
     where
-      atFields : OneRefused s (itsFields done) at → AtNumber s
+      atFields : OneRefused (Stands s) (fieldAt s) (itsFields done) at → AtNumber s
       atFields f = record { at = f .n; w = f .w; v = f .v; wants = Wants.ofFields r (f .along); refused = f .refused }
 
-      atTimes : (f : AllStand s (itsFields done) at) → OneRefused s (itsTimes (f .vs)) (f .n) → AtNumber s
+      atTimes : (f : AllStand (Stands s) (itsFields done) at) → OneRefused (Stands s) (fieldAt s) (itsTimes (f .vs)) (f .n) → AtNumber s
       atTimes f t =
           record { at = t .n; w = t .w; v = t .v; wants = Wants.ofTimes r (f .along) (t .along); refused = t .refused }
 
-      ofFields : AllStand s (itsFields done) at → AtNumber s ⊎ OneMore s k
+      ofFields : AllStand (Stands s) (itsFields done) at → AtNumber s ⊎ OneMore s k
       ofFields f =
           ⊎-elim (λ t. inr (record { done = _; at = t .n; rows = Rows.more r (f .along) (t .along) })) (λ t. inl (atTimes f t))
-          (fields-reached (itsTimes (f .vs)) (f .n))
+          (fields-reached (in-file s) (itsTimes (f .vs)) (f .n))
 
   -- rows one after another
   rows-reached : (k : ℕ) (done : List Task) (at : ℕ) → Rows s k done at → AtNumber s ⊎ AtEnd s
@@ -143,5 +106,5 @@ module _ (s : List ℕ) where
   pub reached : AtNumber s ⊎ AtEnd s
   reached =
       ⊎-elim (λ r. inl (record { at = 0; w = field 0 64; v = r .0; wants = Wants.count; refused = r .1 }))
-      (λ r. rows-reached (r .0) [] (r .1) (Rows.none (read-stands (field 0 64) 0 (r .0) (r .1) (r .2))))
-      (stopped-or-not (fieldAt (field 0 64) s 0))
+      (λ r. rows-reached (r .0) [] (r .1) (Rows.none (read-stands s (field 0 64) 0 (r .0) (r .1) (r .2))))
+      (stopped-or-not (fieldAt s (field 0 64) 0))

@@ -21,8 +21,8 @@ use Rattle.table.proofs.Codes.{is-good, is-fault, or-good}
 use Rattle.table.proofs.GoodTasks.{tasks-good}
 use Rattle.table.proofs.GoodCore.{good-core}
 use Rattle.table.specs.declared.Written.{Written}
-use Rattle.table.specs.Written.{verdictOn, answerOn, bytesLeft}
-use Rattle.files.specs.Writing.{fileOf, writeVerdict, Wrote}
+use Rattle.table.specs.Written.{verdictOn, answerOn, bytesLeft, Writes}
+use Rattle.files.specs.Writing.{fileOf}
 use Rattle.files.specs.RoundTrips.{InMemory}
 use Rattle.files.proofs.Trip.{file-here}
 use Rattle.analysis.specs.declared.Analysed.{Analysed}
@@ -30,6 +30,7 @@ use Rattle.analysis.specs.Analysis.{fileSaid, fileRows, tableSaid, AnalysesTabl
 use Rattle.demands.specs.Tables.{TableRule, WriteRule, MemoryRule, WriteSays, AsFile, Tables}
 use Rattle.demands.proofs.CoreRule.{rule-said, said-rule}
 use Rattle.demands.proofs.Answer.{keeps, said, stays}
+use Rattle.demands.proofs.Said.{said-exactly}
 use Rattle.demands.proofs.FileRule.{reading-fault, read-good}
 use Rattle.demands.proofs.Tables.{fault-first, rule-fault, fault-rule, table-code}
 
@@ -57,24 +58,20 @@ fault-or-good t =
 
 -- ---- writing
 
-module _ (t : Table) (room : ℕ) where
+module _ (t : Table) (new : List ℕ) (room : ℕ) where
   -- what a rule says is said
-  rule-write : {v : Verdict} → WriteRule t room v → writeVerdict t room ≡ v
+  rule-write : {v : Verdict} → WriteRule t new room v → verdictOn (faultOf t) new room ≡ v
   unfolding verdictOn
   rule-write (WriteRule.fault r n) = fault-said t _ r n
-  rule-write (WriteRule.short r h) = next-said t _ r ∙ rw (lt-ltb room (length (fileOf t)) h)
-  rule-write (WriteRule.good r h) = next-said t _ r ∙ rw (le-ltb room (length (fileOf t)) h)
+  rule-write (WriteRule.short r h) = next-said t _ r ∙ rw (lt-ltb room (length new) h)
+  rule-write (WriteRule.good r h) = next-said t _ r ∙ rw (le-ltb room (length new) h)
 
   -- some rule holds
-  some-write : (v : Verdict) × WriteRule t room v
+  some-write : (v : Verdict) × WriteRule t new room v
   some-write =
       ⊎-elim (λ f. (f .v, WriteRule.fault (f .rule) (reading-fault (f .code))))
-      (λ g. ⊎-elim (λ h. (_, WriteRule.short g h)) (λ h. (_, WriteRule.good g h)) (either room (length (fileOf t))))
+      (λ g. ⊎-elim (λ h. (_, WriteRule.short g h)) (λ h. (_, WriteRule.good g h)) (either room (length new)))
       (fault-or-good t)
-
-  -- and what is said a rule says
-  write-rule : WriteRule t room (writeVerdict t room)
-  write-rule = let r = some-write in subst (WriteRule t room) (sym (rule-write (r .1))) (r .1)
 
 -- ---- analysis of a table in memory
 
@@ -96,37 +93,37 @@ module _ (t : Table) (m : InMemory t) (core room : ℕ) where
       (λ g. (_, MemoryRule.analysed g (said-rule core (onCore core (tasksOf t)) room (distinct g))))
       (fault-or-good t)
 
-  -- and what is said a rule says
-  table-rule : MemoryRule t core room (tableSaid t core room)
-  table-rule = let r = some-table in subst (MemoryRule t core room) (sym (rule-table (r .1))) (r .1)
-
 -- ---- what is left
 
-module _ (t : Table) (out : List ℕ) (r : Written) (out′ : List ℕ) (w : Wrote t out r out′) where
-  -- the verdict is what is said
-  write-said : r .verdict ≡ writeVerdict t (length out)
-  unfolding answerOn
+module _ (t : Table) (new out : List ℕ) (r : Written) (out′ : List ℕ) (w : Writes (faultOf t) new out r out′) where
+  -- what is said of writing
+  write-verdict : Verdict
+  write-verdict = verdictOn (faultOf t) new (length out)
+
+  -- the verdict is that
+  write-said : r .verdict ≡ write-verdict
+  unfolding answerOn write-verdict
   write-said = ap (λ (x : Written). x .verdict) (w .answer)
 
   -- how many bytes
-  write-count : r .count ≡ pick (good (writeVerdict t (length out))) (length (fileOf t)) 0
-  unfolding answerOn
+  write-count : r .count ≡ pick (good write-verdict) (length new) 0
+  unfolding answerOn write-verdict
   write-count = ap (λ (x : Written). x .count) (w .answer)
 
-  -- what writing says and leaves
-  write-says : WriteSays t out r out′
-  unfolding bytesLeft
+  -- what writing says and leaves, whatever the bytes are
+  pub write-says : WriteSays t new out r out′
+  unfolding bytesLeft write-verdict
   write-says =
       let e = write-said in
       record {
-        codes = λ v. (λ q. subst (WriteRule t (length out)) (sym e ∙ q) (write-rule t (length out)), λ q. e ∙ rule-write t (length out) q);
+        codes = said-exactly (λ v q. e ∙ rule-write t new (length out) q) (some-write t new (length out));
         kept =
             λ n.
-            (let f : good (writeVerdict t (length out)) ≡ false = is-fault _ (λ z. n (ap codeOf e ∙ z)) in
+            (let f : good write-verdict ≡ false = is-fault _ (λ z. n (ap codeOf e ∙ z)) in
             (w .bytes ∙ rw f, write-count ∙ rw f));
         written =
             λ z.
-            (let g : good (writeVerdict t (length out)) ≡ true = is-good _ (ap codeOf (sym e) ∙ z) in
+            (let g : good write-verdict ≡ true = is-good _ (ap codeOf (sym e) ∙ z) in
             (w .bytes ∙ rw g, write-count ∙ rw g));
       }
 
@@ -158,13 +155,10 @@ as-file t m g =
 pub tables : Tables
 tables =
     record {
-      writing = write-says;
+      writing = λ t. write-says t (fileOf t);
       codes =
-          λ t m core room r room′ a v.
-          (let e : r .verdict ≡ tableSaid t core (length room) = said _ _ room r room′ a in (
-            λ q. subst (MemoryRule t core (length room)) (sym e ∙ q) (table-rule t m core (length room)),
-            λ q. e ∙ rule-table t m core (length room) q,
-          ));
+          λ t m core room r room′ a.
+          said-exactly (λ v q. said _ _ room r room′ a ∙ rule-table t m core (length room) q) (some-table t m core (length room));
       kept = fault-keeps;
       good = as-file;
     }

@@ -4,9 +4,9 @@ use native.Mathlib.Omega.{arith}
 use borrow.Author.Tests.{lt-ltb, le-ltb}
 use mathlib.Core.Path.{_≡_, refl, sym, ap, subst, _∙_}
 use mathlib.Core.Logic.{_⊎_, inl, inr, ⊎-elim}
-use mathlib.Core.List.{List, [], _∷_, _++_}
+use mathlib.Core.List.{List, [], _∷_}
 use lib.ListN.{length, drop}
-use Rattle.lists.proofs.Tests.{by-test, either}
+use Rattle.lists.proofs.Tests.{either}
 use Rattle.table.specs.declared.Row.{Row}
 use Rattle.table.specs.declared.Table.{Table}
 use Rattle.table.specs.declared.Verdict.{Verdict}
@@ -17,24 +17,23 @@ use Rattle.table.specs.Memory.{usedRows}
 use Rattle.table.specs.Faults.{rowFault, rowsFault, faultOf}
 use Rattle.table.proofs.ReadingCodes.{RefusedReading}
 use Rattle.table.proofs.Codes.{or-good, is-fault}
-use Rattle.table.proofs.Fine.{fine-good}
+use Rattle.table.proofs.FieldRanges.{fault-append}
 use Rattle.demands.specs.Reached.{MayBe}
 use Rattle.demands.specs.Tables.{rowWants, rowHas, InRow, RowFine, InRows, InTable, TableRule}
-use Rattle.demands.proofs.NumberRule.{out-judged, over-judged, in-range}
+use Rattle.demands.proofs.Reached.{may-good}
+use Rattle.demands.proofs.NumberRule.{out-judged, over-judged, Judged, judged}
 use Rattle.demands.proofs.ClashRule.{rule-clashes, clashes-rule, clash-code}
 
 -- ---- one number
 
 -- a number is what it may be or not
 may-or-not : (w : Wanted) (x : ℕ) → MayBe w x ⊎ (MayBe w x → ⊥)
-may-or-not w x =
-    ⊎-elim
-    (λ r. ⊎-elim (λ over. inr (λ m. omega (arith, m .left))) (λ left. inl (record { range = r; left = left })) (either (w .left) x))
-    (λ out. inr (λ m. out (m .range))) (in-range w x)
-
--- what may be is good
-may-good : (w : Wanted) (n x : ℕ) → MayBe w x → judge w n x ≡ C.Good
-may-good w n x m = fine-good w n x (record { least = m .range .least; most = m .range .most; room = m .left })
+may-or-not w x = by (judged w x)
+  where
+    by : Judged w x → MayBe w x ⊎ (MayBe w x → ⊥)
+    by (Judged.out n) = inr (λ m. n (m .range))
+    by (Judged.over r h) = inr (λ m. omega (arith, m .left))
+    by (Judged.may m) = inl m
 
 -- ---- a row's numbers
 
@@ -60,19 +59,9 @@ row-fine (w ∷ ws) n (x ∷ xs) f =
     or-good (judge w n x) _ (ap codeOf (may-good w n x m)) ∙ row-fine ws n xs (λ u y r. f u y (InRow.more m r))
 
 -- a row's fields and times are at fault as one list
-faults-join : (ws vs : List Wanted) (n : ℕ) (xs ys : List ℕ) → length ws ≡ length xs
-    → faultIn (ws ++ vs) n (xs ++ ys) ≡ faultIn ws n xs orElse faultIn vs n ys
-unfolding faultIn _orElse_ good
-faults-join [] vs n [] ys l = refl
-faults-join [] vs n (x ∷ xs) ys l = absurd (omega arith)
-faults-join (w ∷ ws) vs n [] ys l = absurd (omega arith)
-faults-join (w ∷ ws) vs n (x ∷ xs) ys l =
-    by-test (good (judge w n x)) (λ t. rw t (faults-join ws vs n xs ys (omega arith))) (λ t. rw (t, t))
-
--- so a row has the fault of its fields and times
 row-fault : (i used : ℕ) (r : Row) (times : List ℕ) → rowFault i used r times ≡ faultIn (rowWants used r) i (rowHas r times)
 unfolding rowFault head
-row-fault i used r times = sym (faults-join (head used) _ i (fieldsOf r) _ refl)
+row-fault i used r times = sym (fault-append (head used) _ i (fieldsOf r) _ refl)
 
 -- ---- the rows' numbers
 
@@ -169,11 +158,12 @@ module _ (t : Table) where
 
   -- a number at fault is out of its range, or above what is left
   bad-rule : t .count ≤ 64 → (n : ℕ) (w : Wanted) (x : ℕ) → InTable t n w x → (MayBe w x → ⊥) → (v : Verdict) × TableRule t v
-  bad-rule h n w x a b =
-      ⊎-elim
-      (λ r.
-      ⊎-elim (λ over. (_, TableRule.tooMany h a r over)) (λ left. absurd (b (record { range = r; left = left }))) (either (w .left) x))
-      (λ out. (_, TableRule.out h a out)) (in-range w x)
+  bad-rule h n w x a b = by (judged w x)
+    where
+      by : Judged w x → (v : Verdict) × TableRule t v
+      by (Judged.out o) = (_, TableRule.out h a o)
+      by (Judged.over r o) = (_, TableRule.tooMany h a r o)
+      by (Judged.may m) = absurd (b m)
 
   -- some rule holds
   some-rule : (v : Verdict) × TableRule t v

@@ -1,4 +1,4 @@
--- Document 01, "Codes and what they leave", its table line by line: the code of each verdict and the number that it carries.
+-- Document 01, "Codes and what they leave", its table line by line, and 02: the code of each verdict and the number that it carries.
 use Prim.Native.Nat.{ℕ}
 use mathlib.Core.Path.{_≡_}
 use Rattle.table.specs.declared.Verdict.{Verdict}
@@ -37,3 +37,5 @@ pub record CodeTable : Type 0 where
   pub code11 : (n : ℕ) → Carries (C.NoWindow n) 11 n
   -- a deadline is missed: task id
   pub code12 : (n : ℕ) → Carries (C.Missed n) 12 n
+  -- 02, §1: a fault of text: offset of the first byte that cannot go on, or the text's length
+  pub code17 : (n : ℕ) → Carries (C.BadText n) 17 n

@@ -20,6 +20,8 @@ use Rattle.demands.specs.AfterReading.{AfterReading}
 use Rattle.demands.specs.Printing.{Printing}
 use Rattle.demands.specs.Samples.{Samples}
 use Rattle.demands.specs.SampleB.{SampleB}
+use Rattle.demands.specs.TextSamples.{TextSamples}
+use Rattle.demands.specs.Texts.{Texts}
 use Rattle.demands.specs.Unique.{Unique}
 
 -- files: what document 01 says of them beside the demands
@@ -51,11 +53,12 @@ pub record SheetClaims : Type 0 where
   pub refused : LineOfARefusal
   pub cut : LinesAreTheText
 
--- samples: those marked P, the machine's, and a second table beside Set A
+-- samples: those marked P, the machine's, a second table beside Set A, and texts
 pub record WorkedSamples : Type 0 where
   pub marked : Samples
   pub setA : SetAReport
   pub sampleB : SampleB
+  pub texts : TextSamples
   pub machine : MachineSample
   pub begun : BegunSample
   -- runs whose jobs come one period apart are allowed, so that demand 3 is about some run
@@ -75,6 +78,8 @@ pub record Demands : Type 0 where
   pub tables : Tables
   pub files : FileClaims
   pub sheets : SheetClaims
+  -- document 02, §1: a spreadsheet's text, read and written
+  pub texts : Texts
   pub samples : WorkedSamples
   -- each promise on lent memory allows one result
   pub unique : Unique

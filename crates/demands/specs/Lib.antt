@@ -5,6 +5,8 @@ pub mod Demand1
 pub mod Demand2
 pub mod Demand3
 pub mod Tables
+pub mod TextReached
+pub mod Texts
 pub mod Unique
 pub mod Codes
 pub mod GoodTables
@@ -12,4 +14,5 @@ pub mod AfterReading
 pub mod SampleB
 pub mod Printing
 pub mod Samples
+pub mod TextSamples
 pub mod Demands

@@ -52,12 +52,14 @@ pub record Stands (s : List ℕ) (w : Wanted) (at v next : ℕ) : Type 0 where
   pub may : MayBe w v
 
 -- of the numbers wanted from one place on, some stand there, one behind the other; the others are wanted at the next place
--- Set A: Along s (head 0) 1 (1 ∷ 0 ∷ 0 ∷ 3 ∷ 5 ∷ 5 ∷ 1 ∷ []) [] 8, all seven fields of row 0: `more` seven times, then `here`;
--- Along s (head 1) 9 (2 ∷ 0 ∷ 1 ∷ 2 ∷ 10 ∷ []) (field 1 16777215 ∷ partCount 1 ∷ []) 14, five fields of row 1: its deadline is next
-pub data Along (s : List ℕ) : List Wanted → ℕ → List ℕ → List Wanted → ℕ → Type 0 where
-  here : {ws : List Wanted} {at : ℕ} → Along s ws at [] ws at
+-- `S w at v next` says that a number v that may be there stands at a place, and where the next begins
+-- Set A: Along (Stands s) (head 0) 1 (1 ∷ 0 ∷ 0 ∷ 3 ∷ 5 ∷ 5 ∷ 1 ∷ []) [] 8, all seven fields of row 0: `more` seven times, then `here`;
+-- Along (Stands s) (head 1) 9 (2 ∷ 0 ∷ 1 ∷ 2 ∷ 10 ∷ []) (field 1 16777215 ∷ partCount 1 ∷ []) 14, five fields of row 1:
+-- its deadline is next
+pub data Along (S : Wanted → ℕ → ℕ → ℕ → Type 0) : List Wanted → ℕ → List ℕ → List Wanted → ℕ → Type 0 where
+  here : {ws : List Wanted} {at : ℕ} → Along S ws at [] ws at
   more : {w : Wanted} {ws others : List Wanted} {at v next n : ℕ} {vs : List ℕ}
-      → Stands s w at v next → Along s ws next vs others n → Along s (w ∷ ws) at (v ∷ vs) others n
+      → S w at v next → Along S ws next vs others n → Along S (w ∷ ws) at (v ∷ vs) others n
 
 -- the fields wanted of the next row: head 0 at first, head 1 behind a1, and head 3 behind a1 and a2, which take three times
 abbrev pub itsFields : List Task → List Wanted
@@ -73,7 +75,7 @@ itsTimes fields = replicate (rowFrom fields .parts) time
 pub data Rows (s : List ℕ) : ℕ → List Task → ℕ → Type 0 where
   none : {count at : ℕ} → Stands s (field 0 64) 0 count at → Rows s count [] at
   more : {k at m n : ℕ} {done : List Task} {fields times : List ℕ}
-      → Rows s (suc k) done at → Along s (itsFields done) at fields [] m → Along s (itsTimes fields) m times [] n
+      → Rows s (suc k) done at → Along (Stands s) (itsFields done) at fields [] m → Along (Stands s) (itsTimes fields) m times [] n
       → Rows s k (done ++ (taskOf (rowFrom fields) times ∷ [])) n
 
 -- after the numbers before it, all fine, this number is wanted at a place
@@ -82,7 +84,7 @@ pub data Rows (s : List ℕ) : ℕ → List Task → ℕ → Type 0 where
 pub data Wants (s : List ℕ) : ℕ → Wanted → Type 0 where
   count : Wants s 0 (field 0 64)
   ofFields : {k at m : ℕ} {done : List Task} {fields : List ℕ} {w : Wanted} {ws : List Wanted}
-      → Rows s (suc k) done at → Along s (itsFields done) at fields (w ∷ ws) m → Wants s m w
+      → Rows s (suc k) done at → Along (Stands s) (itsFields done) at fields (w ∷ ws) m → Wants s m w
   ofTimes : {k at m n : ℕ} {done : List Task} {fields times : List ℕ} {w : Wanted} {ws : List Wanted}
-      → Rows s (suc k) done at → Along s (itsFields done) at fields [] m → Along s (itsTimes fields) m times (w ∷ ws) n
+      → Rows s (suc k) done at → Along (Stands s) (itsFields done) at fields [] m → Along (Stands s) (itsTimes fields) m times (w ∷ ws) n
       → Wants s n w

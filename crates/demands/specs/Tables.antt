@@ -61,11 +61,11 @@ pub data TableRule (t : Table) : Verdict → Type 0 where
   rows : {v : Verdict} → t .count ≤ 64 → ((n x : ℕ) (w : Wanted) → InTable t n w x → MayBe w x) → ClashRule (usedRows t) v
       → TableRule t v
 
--- writing: then 10 with the bytes needed
-pub data WriteRule (t : Table) (room : ℕ) : Verdict → Type 0 where
-  fault : {v : Verdict} → TableRule t v → (v ≡ C.Good → ⊥) → WriteRule t room v
-  short : TableRule t C.Good → room < length (fileOf t) → WriteRule t room (C.NoRoom (length (fileOf t)))
-  good : TableRule t C.Good → length (fileOf t) ≤ room → WriteRule t room C.Good
+-- writing a table as these bytes: then 10 with the bytes needed
+pub data WriteRule (t : Table) (new : List ℕ) (room : ℕ) : Verdict → Type 0 where
+  fault : {v : Verdict} → TableRule t v → (v ≡ C.Good → ⊥) → WriteRule t new room v
+  short : TableRule t C.Good → room < length new → WriteRule t new room (C.NoRoom (length new))
+  good : TableRule t C.Good → length new ≤ room → WriteRule t new room C.Good
 
 -- analysis of a table in memory: then the codes of the core
 pub data MemoryRule (t : Table) (core room : ℕ) : Verdict → Type 0 where
@@ -73,10 +73,10 @@ pub data MemoryRule (t : Table) (core room : ℕ) : Verdict → Type 0 where
   analysed : {v : Verdict} → TableRule t C.Good → CoreRule core (onCore core (tasksOf t)) room v → MemoryRule t core room v
 
 -- what writing says and leaves: refused writing changes no byte, and bytes past the written ones stay
-pub record WriteSays (t : Table) (out : List ℕ) (r : Written) (out′ : List ℕ) : Type 0 where
-  pub codes : (v : Verdict) → (r .verdict ≡ v) ↔ WriteRule t (length out) v
+pub record WriteSays (t : Table) (new out : List ℕ) (r : Written) (out′ : List ℕ) : Type 0 where
+  pub codes : (v : Verdict) → (r .verdict ≡ v) ↔ WriteRule t new (length out) v
   pub kept : (codeOf (r .verdict) ≡ 0 → ⊥) → (out′ ≡ out) × (r .count ≡ 0)
-  pub written : codeOf (r .verdict) ≡ 0 → (out′ ≡ over (fileOf t) out) × (r .count ≡ length (fileOf t))
+  pub written : codeOf (r .verdict) ≡ 0 → (out′ ≡ over new out) × (r .count ≡ length new)
 
 -- a good table is analysed as the file that it is written as, so that demands 2 and 3 are about tables too
 pub record AsFile (t : Table) : Type 0 where
@@ -86,7 +86,8 @@ pub record AsFile (t : Table) : Type 0 where
 
 -- tables in memory
 pub record Tables : Type 0 where
-  pub writing : (t : Table) (out : List ℕ) (r : Written) (out′ : List ℕ) → Wrote t out r out′ → WriteSays t out r out′
+  pub writing : (t : Table) (out : List ℕ) (r : Written) (out′ : List ℕ) → Wrote t out r out′
+      → WriteSays t (fileOf t) out r out′
   pub codes : (t : Table) → InMemory t → (core : ℕ) (room : List ℕ) (r : Analysed) (room′ : List ℕ) → AnalysesTable t core room r room′
       → (v : Verdict) → (r .verdict ≡ v) ↔ MemoryRule t core (length room) v
   -- a table with a fault of its own changes nothing lent

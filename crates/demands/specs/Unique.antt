@@ -5,6 +5,7 @@ use mathlib.Core.List.{List}
 use Rattle.numbers.specs.Numbers.{Put}
 use Rattle.table.specs.declared.Table.{Table}
 use Rattle.files.specs.Writing.{Wrote}
+use Rattle.comma.specs.Writing.{WroteText}
 use Rattle.analysis.specs.Analysis.{Analyses, AnalysesTable}
 use Rattle.sheet.specs.Sheet.{Prints}
 
@@ -16,6 +17,7 @@ OneOnly {A} {B} P = (r q : A) (left other : B) → P r left → P q other → (r
 pub record Unique : Type 0 where
   pub put : (v : ℕ) (out : List ℕ) → OneOnly (Put v out)
   pub wrote : (t : Table) (out : List ℕ) → OneOnly (Wrote t out)
+  pub wroteText : (t : Table) (out : List ℕ) → OneOnly (WroteText t out)
   pub table : (t : Table) (core : ℕ) (room : List ℕ) → OneOnly (AnalysesTable t core room)
   pub analyses : (s : List ℕ) (core : ℕ) (room : List ℕ) → OneOnly (Analyses s core room)
   pub prints : (s out : List ℕ) → OneOnly (Prints s out)

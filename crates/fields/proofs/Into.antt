@@ -12,25 +12,27 @@ use Rattle.fields.specs.declared.Next.the-variants as X
 use Rattle.fields.specs.Stepping.{Step, stop, go, fieldsAt}
 use Rattle.fields.specs.Promises.{asNext, ReadInto}
 use Rattle.fields.proofs.Steps.{before-all}
-use Rattle.fields.proofs.Taken.{taken-all}
+use Rattle.fields.proofs.Taken.{Reader, taken-all}
 
-module _ {ws : List Wanted} {s : List ℕ} {at : ℕ} {out out′ : List ℕ} where
+module _ {s : List ℕ} {plain : Type 0} {form : ℕ → List ℕ} {one : Wanted → ℕ → Step ℕ} (reader : Reader s plain form one)
+    {ws : List Wanted} {at : ℕ} {out out′ : List ℕ} where
   -- reading went on: the room is what was read
-  pub into-at : (n : ℕ) → length ws ≡ length out → ReadInto ws s at out (X.At n) out′ → fieldsAt ws [] s at ≡ go out′ n
-  into-at n same r = by (fieldsAt ws [] s at) refl (r .next)
+  pub into-at : (n : ℕ) → length ws ≡ length out → ReadInto one ws at out (X.At n) out′ → fieldsAt one ws [] at ≡ go out′ n
+  into-at n same r = by (fieldsAt one ws [] at) refl (r .next)
     where
-      by : (x : Step (List ℕ)) → fieldsAt ws [] s at ≡ x → X.At n ≡ asNext x → fieldsAt ws [] s at ≡ go out′ n
+      by : (x : Step (List ℕ)) → fieldsAt one ws [] at ≡ x → X.At n ≡ asNext x → fieldsAt one ws [] at ≡ go out′ n
       by (stop v) q e = let z : _≡_ {A = ℕ} 0 1 = cc in absurd (omega arith)
       by (go all m) q e =
           let here : m ≡ n = cc in
-          let full : length all ≡ length out = all-length ws all (taken-all ws s at all m q .fine) ∙ same in
-          let room : out′ ≡ all = r .room ∙ rw (before-all ws [] s at all m q) (over-full all out (omega arith)) in
+          let full : length all ≡ length out = all-length ws all (taken-all reader ws at all m q .fine) ∙ same in
+          let room : out′ ≡ all = r .room ∙ rw (before-all one ws [] at all m q) (over-full all out (omega arith)) in
           q ∙ rw (here, room)
 
-  -- reading was refused
-  pub into-refused : (v : Verdict) → ReadInto ws s at out (X.Refused v) out′ → fieldsAt ws [] s at ≡ stop v
-  into-refused v r = by (fieldsAt ws [] s at) refl (r .next)
-    where
-      by : (x : Step (List ℕ)) → fieldsAt ws [] s at ≡ x → X.Refused v ≡ asNext x → fieldsAt ws [] s at ≡ stop v
-      by (stop w) q e = let p : w ≡ v = cc in q ∙ rw p
-      by (go all m) q e = let z : _≡_ {A = ℕ} 0 1 = cc in absurd (omega arith)
+-- reading was refused
+pub into-refused : {one : Wanted → ℕ → Step ℕ} {ws : List Wanted} {at : ℕ} {out out′ : List ℕ} (v : Verdict)
+    → ReadInto one ws at out (X.Refused v) out′ → fieldsAt one ws [] at ≡ stop v
+into-refused {one} {ws} {at} v r = by (fieldsAt one ws [] at) refl (r .next)
+  where
+    by : (x : Step (List ℕ)) → fieldsAt one ws [] at ≡ x → X.Refused v ≡ asNext x → fieldsAt one ws [] at ≡ stop v
+    by (stop w) q e = let p : w ≡ v = cc in q ∙ rw p
+    by (go all m) q e = let z : _≡_ {A = ℕ} 0 1 = cc in absurd (omega arith)

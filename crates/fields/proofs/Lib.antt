@@ -1,6 +1,16 @@
 pub mod Steps
 pub mod Taken
 pub mod Into
+pub mod Filling
+pub mod HeadRead
+pub mod RowRead
 pub mod Sizes
 pub mod Near
 pub mod Here
+pub mod Honest
+pub mod Digits
+pub mod Scanned
+pub mod Valued
+pub mod FieldSteps
+pub mod Below
+pub mod Ways

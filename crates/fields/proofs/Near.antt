@@ -89,13 +89,13 @@ module _ (s : List ℕ) where
   asked-near w at h N.Malformed e = record { fault = record { fault = refl; read = refl }; small = λ bs. omega (arith, h bs) }
 
   -- so a number that is wanted at a place
-  pub field-near : (w : Wanted) (at : ℕ) → Inside s at → Near s (λ v. v ≤ w .high) (fieldAt w s at)
+  pub field-near : (w : Wanted) (at : ℕ) → Inside s at → Near s (λ v. v ≤ w .high) (fieldAt s w at)
   unfolding fieldAt
   field-near w at h = asked-near w at h (numberAt s at) refl
 
   -- numbers one after another
-  pub fields-near : (ws : List Wanted) (done : List ℕ) (at : ℕ) → Inside s at → Near s Any (fieldsAt ws done s at)
+  pub fields-near : (ws : List Wanted) (done : List ℕ) (at : ℕ) → Inside s at → Near s Any (fieldsAt (fieldAt s) ws done at)
   unfolding fieldsAt
   fields-near [] done at h = go-near Any done at h tt
   fields-near (w ∷ ws) done at h =
-      then-near (λ v. v ≤ w .high) Any (fieldAt w s at) _ (field-near w at h) (λ v n k p. fields-near ws (done ++ (v ∷ [])) n k)
+      then-near (λ v. v ≤ w .high) Any (fieldAt s w at) _ (field-near w at h) (λ v n k p. fields-near ws (done ++ (v ∷ [])) n k)

@@ -8,7 +8,7 @@ use Rattle.table.specs.Verdicts.{codeOf}
 use Rattle.table.specs.Fields.{Wanted}
 use Rattle.table.proofs.Codes.{is-good, is-fault}
 use Rattle.fields.specs.declared.Field.the-variants as F
-use Rattle.fields.specs.Stepping.{Step, stop, go, _then_, unless, fieldAt, fieldsAt}
+use Rattle.fields.specs.Stepping.{Step, stop, go, _then_, unless, fieldsAt}
 use Rattle.fields.specs.Promises.{asField, stepped, readBefore}
 
 -- where the verdict's code k was asked for: stop, or go on
@@ -33,30 +33,33 @@ pub refused-field : (x : Step ℕ) (v : Verdict) → F.Refused v ≡ asField x �
 refused-field (stop w) v e = let p : w ≡ v = cc in rw p
 refused-field (go w m) v e = let z : _≡_ {A = ℕ} 0 1 = cc in absurd (omega arith)
 
--- the first numbers wanted, and behind them the others
-pub fields-append : (ws vs : List Wanted) (done s : List ℕ) (at : ℕ)
-    → fieldsAt (ws ++ vs) done s at ≡ (fieldsAt ws done s at then λ numbers at. fieldsAt vs numbers s at)
-unfolding fieldsAt _then_
-fields-append [] vs done s at = refl
-fields-append (w ∷ ws) vs done s at = by (fieldAt w s at) (λ v n. fields-append ws vs (done ++ (v ∷ [])) s n)
-  where
-    by : (x : Step ℕ)
-        → ((v n : ℕ)
-        → fieldsAt (ws ++ vs) (done ++ (v ∷ [])) s n ≡ (fieldsAt ws (done ++ (v ∷ [])) s n then λ numbers at. fieldsAt vs numbers s at))
-        → (x then λ value at. fieldsAt (ws ++ vs) (done ++ (value ∷ [])) s at)
-        ≡ ((x then λ value at. fieldsAt ws (done ++ (value ∷ [])) s at) then λ numbers at. fieldsAt vs numbers s at)
-    by (stop v) h = refl
-    by (go v n) h = h v n
+-- numbers one after another, each read as `one` says
+module _ (one : Wanted → ℕ → Step ℕ) where
+  -- the first numbers wanted, and behind them the others
+  pub fields-append : (ws vs : List Wanted) (done : List ℕ) (at : ℕ)
+      → fieldsAt one (ws ++ vs) done at ≡ (fieldsAt one ws done at then λ numbers at. fieldsAt one vs numbers at)
+  unfolding fieldsAt _then_
+  fields-append [] vs done at = refl
+  fields-append (w ∷ ws) vs done at = by (one w at) (λ v n. fields-append ws vs (done ++ (v ∷ [])) n)
+    where
+      by : (x : Step ℕ)
+          → ((v n : ℕ)
+          → fieldsAt one (ws ++ vs) (done ++ (v ∷ [])) n
+          ≡ (fieldsAt one ws (done ++ (v ∷ [])) n then λ numbers at. fieldsAt one vs numbers at))
+          → (x then λ value at. fieldsAt one (ws ++ vs) (done ++ (value ∷ [])) at)
+          ≡ ((x then λ value at. fieldsAt one ws (done ++ (value ∷ [])) at) then λ numbers at. fieldsAt one vs numbers at)
+      by (stop v) h = refl
+      by (go v n) h = h v n
 
--- where all were read, they are what stands then
-pub before-all : (ws : List Wanted) (done s : List ℕ) (at : ℕ) (all : List ℕ) (n : ℕ) → fieldsAt ws done s at ≡ go all n
-    → readBefore ws done s at ≡ all
-unfolding fieldsAt readBefore _then_ stepped
-before-all [] done s at all n e = cc
-before-all (w ∷ ws) done s at all n e = by (fieldAt w s at) e (λ v m. before-all ws (done ++ (v ∷ [])) s m all n)
-  where
-    by : (x : Step ℕ) → (x then λ value at. fieldsAt ws (done ++ (value ∷ [])) s at) ≡ go all n
-        → ((v m : ℕ) → fieldsAt ws (done ++ (v ∷ [])) s m ≡ go all n → readBefore ws (done ++ (v ∷ [])) s m ≡ all)
-        → stepped done (λ value at. readBefore ws (done ++ (value ∷ [])) s at) x ≡ all
-    by (stop v) f h = let z : _≡_ {A = ℕ} 0 1 = cc in absurd (omega arith)
-    by (go v m) f h = h v m f
+  -- where all were read, they are what stands then
+  pub before-all : (ws : List Wanted) (done : List ℕ) (at : ℕ) (all : List ℕ) (n : ℕ) → fieldsAt one ws done at ≡ go all n
+      → readBefore one ws done at ≡ all
+  unfolding fieldsAt readBefore _then_ stepped
+  before-all [] done at all n e = cc
+  before-all (w ∷ ws) done at all n e = by (one w at) e (λ v m. before-all ws (done ++ (v ∷ [])) m all n)
+    where
+      by : (x : Step ℕ) → (x then λ value at. fieldsAt one ws (done ++ (value ∷ [])) at) ≡ go all n
+          → ((v m : ℕ) → fieldsAt one ws (done ++ (v ∷ [])) m ≡ go all n → readBefore one ws (done ++ (v ∷ [])) m ≡ all)
+          → stepped done (λ value at. readBefore one ws (done ++ (value ∷ [])) at) x ≡ all
+      by (stop v) f h = let z : _≡_ {A = ℕ} 0 1 = cc in absurd (omega arith)
+      by (go v m) f h = h v m f

@@ -1,12 +1,15 @@
 -- Numbers that were read are what they may be, and stand in the file in their shortest form. Assumes nothing.
-use Prim.Native.Nat.{ℕ, _+_}
+use Prim.Native.Nat.{ℕ, _+_, _≤_, _<_}
+use native.Mathlib.Nat.{add-zero}
 use native.Mathlib.Omega.{arith}
 use mathlib.Core.Path.{_≡_, refl, sym, ap, _∙_}
 use mathlib.Core.List.{List, [], _∷_, _++_, append-assoc, append-nil}
-use lib.ListN.{length, drop, length-append}
+use lib.ListN.{length, drop, getD, length-append, length-drop, List·getD-append}
+use lib.Seq.{getD-drop}
 use Rattle.lists.specs.Lists.{each}
 use Rattle.lists.proofs.Tests.{by-test}
-use Rattle.numbers.specs.Numbers.{Bytes, numberAt, encode, encodeAll}
+use Rattle.lists.proofs.Drops.{next-here}
+use Rattle.numbers.specs.Numbers.{Bytes, numberAt, encode}
 use Rattle.numbers.specs.declared.Number.{Number}
 use Rattle.numbers.specs.declared.Number.the-variants as N
 use Rattle.numbers.proofs.RoundTrip.{stands}
@@ -55,25 +58,56 @@ pub record Between (s : List ℕ) (at : ℕ) (bytes : List ℕ) (next : ℕ) : T
   pub stand : drop at s ≡ bytes ++ drop next s
   pub past : next ≡ at + length bytes
 
+-- nothing stands from a place to itself
+pub none-between : (s : List ℕ) (at : ℕ) → Between s at [] at
+none-between s at = record { stand = refl; past = sym (add-zero at) }
+
+-- bytes with others behind them stand up to these
+pub between-here : {s : List ℕ} {at : ℕ} (bytes rest : List ℕ) → drop at s ≡ bytes ++ rest → Between s at bytes (at + length bytes)
+between-here {s} {at} bytes rest e = record { stand = e ∙ ap (_++_ bytes) (sym (next-here s bytes rest at e)); past = refl }
+
+-- the first of them stands at the place
+pub between-first : {s : List ℕ} {at n : ℕ} {bytes : List ℕ} → 0 < length bytes → Between s at bytes n → getD s at 0 ≡ getD bytes 0 0
+between-first {s} {at} {n} {bytes} some k =
+    sym (rw add-zero at (getD-drop at s 0 0)) ∙ ap (λ l. getD l 0 0) (k .stand) ∙ List·getD-append bytes (drop n s) 0 0 some
+
+-- some bytes that stand there stand within the text
+pub between-within : {s : List ℕ} {at n : ℕ} {bytes : List ℕ} → 0 < length bytes → Between s at bytes n → n ≤ length s
+between-within {s} {at} {n} {bytes} some k =
+    omega (arith, k .past, ap length (k .stand), length-append bytes (drop n s), length-drop at s, length-drop n s)
+
+-- what stands there, part by part
+pub split-between : {s : List ℕ} {at n : ℕ} (a b : List ℕ) → Between s at (a ++ b) n
+    → Between s at a (at + length a) × Between s (at + length a) b n
+split-between {s} {at} {n} a b k =
+    let stand : drop at s ≡ a ++ (b ++ drop n s) = k .stand ∙ append-assoc a b (drop n s) in
+    let behind = next-here s a (b ++ drop n s) at stand in
+    (between-here a (b ++ drop n s) stand, record { stand = behind; past = omega (arith, k .past, length-append a b) })
+
 -- and behind them others
-pub joined : (s : List ℕ) (at m n : ℕ) (a b : List ℕ) → Between s at a m → Between s m b n → Between s at (a ++ b) n
-joined s at m n a b e f = record {
+pub both-between : (s : List ℕ) (at m n : ℕ) (a b : List ℕ) → Between s at a m → Between s m b n → Between s at (a ++ b) n
+both-between s at m n a b e f = record {
   stand = e .stand ∙ ap (_++_ a) (f .stand) ∙ sym (append-assoc a b (drop n s));
   past = rw length-append (omega (arith, e .past, f .past));
 }
 
--- the number that was read stands there, and is what it may be
-pub record Read (w : Wanted) (s : List ℕ) (at v n : ℕ) : Type 0 where
+-- a way to read one number: what it reads is what it may be, and where `plain` holds it stands there in its form
+pub record Reader (s : List ℕ) (plain : Type 0) (form : ℕ → List ℕ) (one : Wanted → ℕ → Step ℕ) : Type 0 where
+  pub fine : (w : Wanted) (at v n : ℕ) → one w at ≡ go v n → Fine w v
+  pub bytes : plain → (w : Wanted) (at v n : ℕ) → one w at ≡ go v n → Between s at (form v) n
+
+-- the number that was read stands in the file, and is what it may be
+pub record Read (s : List ℕ) (w : Wanted) (at v n : ℕ) : Type 0 where
   pub number : numberAt s at ≡ N.Got v n
   pub fine : Fine w v
   pub bytes : Bytes s → Between s at (encode v) n
 
 -- so it is where a wanted number was read
-pub field-read : (w : Wanted) (s : List ℕ) (at v n : ℕ) → fieldAt w s at ≡ go v n → Read w s at v n
+pub field-read : (s : List ℕ) (w : Wanted) (at v n : ℕ) → fieldAt s w at ≡ go v n → Read s w at v n
 unfolding fieldAt asked
-field-read w s at v n e = by (numberAt s at) refl
+field-read s w at v n e = by (numberAt s at) refl
   where
-    by : (x : Number) → numberAt s at ≡ x → Read w s at v n
+    by : (x : Number) → numberAt s at ≡ x → Read s w at v n
     by (N.Got u m) q =
         let f : unless (judge w at u) u m ≡ go v n = rw q at e in
         let p = passed (judge w at u) u m v n f in
@@ -86,51 +120,57 @@ field-read w s at v n e = by (numberAt s at) refl
     by N.EndsEarly q = let f : _≡_ {A = Step ℕ} (stop _) (go v n) = rw q at e in stopped-not _ refl f
     by N.Malformed q = let f : _≡_ {A = Step ℕ} (stop _) (go v n) = rw q at e in stopped-not _ refl f
 
--- the numbers that were read behind those that were done
-pub record Taken (ws : List Wanted) (done s : List ℕ) (at : ℕ) (all : List ℕ) (n : ℕ) : Type 0 where
-  pub numbers : List ℕ
-  pub whole : all ≡ done ++ numbers
-  pub fine : AllFine ws numbers
-  pub bytes : Bytes s → Between s at (encodeAll numbers) n
+-- in its shortest form
+pub in-file : (s : List ℕ) → Reader s (Bytes s) encode (fieldAt s)
+in-file s = record {
+  fine = λ w at v n e. field-read s w at v n e .fine;
+  bytes = λ bs w at v n e. field-read s w at v n e .bytes bs;
+}
 
--- so it is where wanted numbers were read
-pub taken : (ws : List Wanted) (done s : List ℕ) (at : ℕ) (all : List ℕ) (n : ℕ) → fieldsAt ws done s at ≡ go all n
-    → Taken ws done s at all n
-unfolding fieldsAt AllFine each
-taken [] done s at all n e =
-    let same : done ≡ all = cc in
-    let here : at ≡ n = cc in
-    record {
-      numbers = [];
-      whole = sym same ∙ sym (append-nil done);
-      fine = tt;
-      bytes = λ bs. record { stand = ap (λ (k : ℕ). drop k s) here; past = omega arith };
-    }
-taken (w ∷ ws) done s at all n e =
-    let r = then-read (fieldAt w s at) (λ v m. fieldsAt ws (done ++ (v ∷ [])) s m) all n e in
-    more (r .what) (r .place) (field-read w s at (r .what) (r .place) (r .first))
-    (taken ws (done ++ (r .what ∷ [])) s (r .place) all n (r .rest))
-  where
-    more : (v m : ℕ) → Read w s at v m → Taken ws (done ++ (v ∷ [])) s m all n → Taken (w ∷ ws) done s at all n
-    more v m f l = record {
-      numbers = v ∷ l .numbers;
-      whole = l .whole ∙ append-assoc done (v ∷ []) (l .numbers);
-      fine = (f .fine, l .fine);
-      bytes = λ bs. joined s at m n (encode v) (encodeAll (l .numbers)) (f .bytes bs) (l .bytes bs);
-    }
+module _ {s : List ℕ} {plain : Type 0} {form : ℕ → List ℕ} {one : Wanted → ℕ → Step ℕ} (reader : Reader s plain form one) where
+  -- the numbers that were read behind those that were done
+  pub record Taken (ws : List Wanted) (done : List ℕ) (at : ℕ) (all : List ℕ) (n : ℕ) : Type 0 where
+    pub numbers : List ℕ
+    pub whole : all ≡ done ++ numbers
+    pub fine : AllFine ws numbers
+    pub bytes : plain → Between s at (each form numbers) n
 
--- from nothing done: all of them
-pub record TakenAll (ws : List Wanted) (s : List ℕ) (at : ℕ) (all : List ℕ) (n : ℕ) : Type 0 where
-  pub fine : AllFine ws all
-  pub bytes : Bytes s → Between s at (encodeAll all) n
+  -- so it is where wanted numbers were read
+  pub taken : (ws : List Wanted) (done : List ℕ) (at : ℕ) (all : List ℕ) (n : ℕ) → fieldsAt one ws done at ≡ go all n
+      → Taken ws done at all n
+  unfolding fieldsAt AllFine each
+  taken [] done at all n e =
+      let same : done ≡ all = cc in
+      let here : at ≡ n = cc in
+      record {
+        numbers = [];
+        whole = sym same ∙ sym (append-nil done);
+        fine = tt;
+        bytes = λ p. record { stand = ap (λ (k : ℕ). drop k s) here; past = omega arith };
+      }
+  taken (w ∷ ws) done at all n e =
+      let r = then-read (one w at) (λ v m. fieldsAt one ws (done ++ (v ∷ [])) m) all n e in
+      more (r .what) (r .place) (r .first) (taken ws (done ++ (r .what ∷ [])) (r .place) all n (r .rest))
+    where
+      more : (v m : ℕ) → one w at ≡ go v m → Taken ws (done ++ (v ∷ [])) m all n → Taken (w ∷ ws) done at all n
+      more v m f l = record {
+        numbers = v ∷ l .numbers;
+        whole = l .whole ∙ append-assoc done (v ∷ []) (l .numbers);
+        fine = (reader .fine w at v m f, l .fine);
+        bytes = λ p. both-between s at m n (form v) (each form (l .numbers)) (reader .bytes p w at v m f) (l .bytes p);
+      }
 
--- so it is where nothing was done before
-pub taken-all : (ws : List Wanted) (s : List ℕ) (at : ℕ) (all : List ℕ) (n : ℕ) → fieldsAt ws [] s at ≡ go all n → TakenAll ws s at all n
-taken-all ws s at all n e = let r = taken ws [] s at all n e in rw (r .whole) record { fine = r .fine; bytes = r .bytes }
+  -- from nothing done: all of them
+  pub record TakenAll (ws : List Wanted) (at : ℕ) (all : List ℕ) (n : ℕ) : Type 0 where
+    pub fine : AllFine ws all
+    pub bytes : plain → Between s at (each form all) n
 
--- a row's fields that were read are in their ranges
-pub head-read : (used : ℕ) (s : List ℕ) (at : ℕ) (fields : List ℕ) (n : ℕ) → fieldsAt (head used) [] s at ≡ go fields n
-    → GoodHead used (rowFrom fields)
-head-read used s at fields n e =
-    let f = taken-all (head used) s at fields n e .fine in
-    good-head used (rowFrom fields) (rw (seven used fields f) f)
+  -- so it is where nothing was done before
+  pub taken-all : (ws : List Wanted) (at : ℕ) (all : List ℕ) (n : ℕ) → fieldsAt one ws [] at ≡ go all n → TakenAll ws at all n
+  taken-all ws at all n e = let r = taken ws [] at all n e in rw (r .whole) record { fine = r .fine; bytes = r .bytes }
+
+  -- a row's fields that were read are in their ranges
+  pub head-read : (used at : ℕ) (fields : List ℕ) (n : ℕ) → fieldsAt one (head used) [] at ≡ go fields n → GoodHead used (rowFrom fields)
+  head-read used at fields n e =
+      let f = taken-all (head used) at fields n e .fine in
+      good-head used (rowFrom fields) (rw (seven used fields f) f)

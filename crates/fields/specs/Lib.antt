@@ -1,2 +1,4 @@
 pub mod Stepping
+pub mod TextFields
+pub mod Ways
 pub mod Promises

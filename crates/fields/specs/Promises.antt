@@ -1,14 +1,21 @@
 -- Inner: how the definitions stand behind the functions that read numbers.
-use Prim.Native.Nat.{ℕ}
+use Prim.Native.Nat.{ℕ, _-_, _<_, min}
 use mathlib.Core.Path.{_≡_}
 use mathlib.Core.List.{List, [], _∷_, _++_}
-use Rattle.lists.specs.Lists.{over}
-use Rattle.table.specs.Fields.{Wanted}
+use lib.ListN.{getD}
+use Rattle.lists.specs.Lists.{pick, over}
+use Rattle.text.specs.Numerals.{isDigit}
+use Rattle.table.specs.Fields.{Wanted, rowFrom}
+use Rattle.fields.specs.declared.Ended.{Ended}
+use Rattle.fields.specs.declared.Ended.the-variants as E
+use Rattle.fields.specs.declared.Ending.{Ending}
 use Rattle.fields.specs.declared.Field.{Field}
 use Rattle.fields.specs.declared.Field.the-variants as F
+use Rattle.fields.specs.declared.Head.{Head}
+use Rattle.fields.specs.declared.Head.the-variants as H
 use Rattle.fields.specs.declared.Next.{Next}
 use Rattle.fields.specs.declared.Next.the-variants as X
-use Rattle.fields.specs.Stepping.{Step, stop, go, fieldAt, fieldsAt}
+use Rattle.fields.specs.Stepping.{Step, stop, go, fieldsAt}
 
 abbrev pub asField : Step ℕ → Field
 asField (stop v) = F.Refused v
@@ -18,17 +25,40 @@ abbrev pub asNext : Step (List ℕ) → Next
 asNext (stop v) = X.Refused v
 asNext (go numbers next) = X.At next
 
+abbrev pub asHead : Step (List ℕ) → Head
+asHead (stop v) = H.Refused v
+asHead (go fields next) = H.Got (rowFrom fields) next
+
 -- what stands after a step: what stood before it where it stops
 unfoldable pub stepped : {A B : Type 0} → B → (A → ℕ → B) → Step A → B
 stepped before f (stop v) = before
 stepped before f (go a next) = f a next
 
 -- the numbers that are read before reading stops, behind those that are done
-unfoldable pub readBefore : List Wanted → List ℕ → List ℕ → ℕ → List ℕ
-readBefore [] done s at = done
-readBefore (w ∷ ws) done s at = stepped done (λ value at. readBefore ws (done ++ (value ∷ [])) s at) (fieldAt w s at)
+unfoldable pub readBefore : (Wanted → ℕ → Step ℕ) → List Wanted → List ℕ → ℕ → List ℕ
+readBefore one [] done at = done
+readBefore one (w ∷ ws) done at = stepped done (λ value at. readBefore one ws (done ++ (value ∷ [])) at) (one w at)
 
 -- numbers read into lent room, each stored as it is read, and where reading goes on or why it does not
-pub record ReadInto (ws : List Wanted) (s : List ℕ) (at : ℕ) (out : List ℕ) (r : Next) (out′ : List ℕ) : Type 0 where
-  pub next : r ≡ asNext (fieldsAt ws [] s at)
-  pub room : out′ ≡ over (readBefore ws [] s at) out
+pub record ReadInto (one : Wanted → ℕ → Step ℕ) (ws : List Wanted) (at : ℕ) (out : List ℕ) (r : Next) (out′ : List ℕ) : Type 0 where
+  pub next : r ≡ asNext (fieldsAt one ws [] at)
+  pub room : out′ ≡ over (readBefore one ws [] at) out
+
+-- ---- a field of text
+
+-- the digit that a byte is, or 10
+unfoldable pub digitOr : ℕ → ℕ
+digitOr b = pick (isDigit b) (b - 48) 10
+
+-- a number as the code holds it: at most one above every range
+abbrev pub held : Step ℕ → Step ℕ
+held (stop v) = stop v
+held (go value next) = go (min 16777216 value) next
+
+-- each of some numbers is below a bound
+pub record AllBelow (ns : List ℕ) (bound : ℕ) : Type 0 where
+  pub below : (i : ℕ) → getD ns i 0 < bound
+
+abbrev pub asEnded : Step Ending → Ended
+asEnded (stop v) = E.Refused v
+asEnded (go ending next) = E.At ending next

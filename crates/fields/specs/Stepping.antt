@@ -3,13 +3,15 @@ use Prim.Native.Nat.{ℕ}
 use mathlib.Core.List.{List, [], _∷_, _++_}
 use lib.ListN.{length}
 use Rattle.lists.specs.Lists.{pick}
+use Rattle.model.specs.Task.{Task}
 use Rattle.numbers.specs.Numbers.{numberAt}
 use Rattle.numbers.specs.declared.Number.{Number}
 use Rattle.numbers.specs.declared.Number.the-variants as N
 use Rattle.table.specs.declared.Verdict.{Verdict}
 use Rattle.table.specs.declared.Verdict.the-variants.{EndsEarly, Malformed}
 use Rattle.table.specs.Verdicts.{good}
-use Rattle.table.specs.Fields.{Wanted, judge}
+use Rattle.table.specs.Fields.{Wanted, head, rowFrom, judge}
+use Rattle.table.specs.Memory.{taskOf}
 
 -- reading stops at a fault, or goes on from the next place with what was read
 pub data Step (A : Type 0) : Type 0 where
@@ -32,11 +34,18 @@ asked w s at (N.Got value next) = unless (judge w at value) value next
 asked w s at N.EndsEarly = stop (EndsEarly (length s))
 asked w s at N.Malformed = stop (Malformed at)
 
--- the number wanted at a place
-unfoldable pub fieldAt : Wanted → List ℕ → ℕ → Step ℕ
-fieldAt w s at = asked w s at (numberAt s at)
+-- the number wanted at a place of a file
+unfoldable pub fieldAt : List ℕ → Wanted → ℕ → Step ℕ
+fieldAt s w at = asked w s at (numberAt s at)
 
--- numbers one after another, behind those that are done
-unfoldable pub fieldsAt : List Wanted → List ℕ → List ℕ → ℕ → Step (List ℕ)
-fieldsAt [] done s at = go done at
-fieldsAt (w ∷ ws) done s at = fieldAt w s at then λ value at. fieldsAt ws (done ++ (value ∷ [])) s at
+-- numbers one after another, each read as `one` says, behind those that are done
+unfoldable pub fieldsAt : (Wanted → ℕ → Step ℕ) → List Wanted → List ℕ → ℕ → Step (List ℕ)
+fieldsAt one [] done at = go done at
+fieldsAt one (w ∷ ws) done at = one w at then λ value at. fieldsAt one ws (done ++ (value ∷ [])) at
+
+-- a row, with `used` times before it: its fields, each read as `one` says, then one worst time per part
+unfoldable pub rowBy : (Wanted → ℕ → Step ℕ) → (ℕ → ℕ → Step (List ℕ)) → ℕ → ℕ → Step Task
+rowBy one times used at =
+    fieldsAt one (head used) [] at then λ fields at.
+    times (rowFrom fields .parts) at then λ times at.
+    go (taskOf (rowFrom fields) times) at

@@ -4,61 +4,45 @@ use native.Mathlib.Omega.{arith}
 use borrow.Author.Tests.{ltb-false}
 use mathlib.Core.Path.{_≡_, refl, sym, ap, _∙_}
 use mathlib.Core.List.{List, [], _∷_, _++_, append-assoc, append-nil}
-use lib.ListN.{length, drop, replicate, length-append, length-replicate, drop-of-length-le}
+use lib.ListN.{length, drop, replicate, drop-of-length-le}
 use lib.Dec.{ltb}
 use Rattle.lists.specs.Lists.{each}
-use Rattle.lists.proofs.Each.{each-snoc}
+use Rattle.lists.proofs.Each.{each-snoc-length}
 use Rattle.lists.proofs.Tests.{by-test}
 use Rattle.numbers.specs.Numbers.{Bytes, encodeAll}
 use Rattle.model.specs.Task.{Task}
 use Rattle.table.specs.declared.Verdict.the-variants.{Trailing}
 use Rattle.table.specs.Verdicts.{codeOf, good}
-use Rattle.table.specs.Fields.{field, head, time, rowFrom, fieldsOf}
-use Rattle.table.specs.Memory.{rowOf, taskOf, allTimes, rowsOf}
+use Rattle.table.specs.Fields.{field, time}
+use Rattle.table.specs.Memory.{allTimes, rowsOf}
 use Rattle.table.specs.Clash.{clashOf}
-use Rattle.table.proofs.Seven.{all-length, seven}
 use Rattle.table.proofs.GoodTasks.{FineTask, FineTasks, GoodTasks}
-use Rattle.fields.specs.Stepping.{stop, go, fieldAt, fieldsAt}
-use Rattle.files.specs.Reading.{rowAt, rowsAt, endAt, decode}
+use Rattle.fields.specs.Stepping.{stop, go, fieldAt}
+use Rattle.fields.proofs.RowRead.{TimesReader, row-back}
+use Rattle.files.specs.Reading.{timesAt, rowAt, rowsAt, endAt, decode}
 use Rattle.files.specs.Writing.{encodeFile}
-use Rattle.fields.proofs.Taken.{Between, joined, stopped-not, passed, then-read, Read, field-read, TakenAll, taken-all}
+use Rattle.fields.proofs.Taken.{Between, both-between, stopped-not, passed, then-read, Read, field-read, in-file, taken-all}
 use Rattle.files.proofs.RowBytes.{rowBytes, rowsBytes, row-parts, rows-none, rows-more, file-parts}
 
 module _ (s : List ℕ) where
+  -- the times of a row in a file
+  pub times-in-file : TimesReader s (Bytes s) encodeAll (timesAt s)
+  times-in-file = record {
+    fine = λ k at ts n h e. taken-all (in-file s) (replicate k time) at ts n e .fine;
+    bytes = λ bs k at ts n e. taken-all (in-file s) (replicate k time) at ts n e .bytes bs;
+  }
+
   -- a row that was read
   pub record Row (used at : ℕ) (t : Task) (n : ℕ) : Type 0 where
     pub fine : FineTask used t
     pub bytes : Bytes s → Between s at (rowBytes t) n
 
-  -- its seven fields, then as many times as it has parts
-  row-of : (used at m n : ℕ) (fields times : List ℕ) → TakenAll (head used) s at fields m
-      → TakenAll (replicate (rowFrom fields .parts) time) s m times n → Row used at (taskOf (rowFrom fields) times) n
-  row-of used at m n fields times f g =
-      let own : length times ≡ rowFrom fields .parts = all-length _ times (g .fine) ∙ length-replicate (rowFrom fields .parts) time in
-      let same : fieldsOf (rowOf (taskOf (rowFrom fields) times)) ≡ fields = rw own (seven used fields (f .fine)) in
-      record {
-        fine = record { fields = rw same (f .fine); times = rw own (g .fine) };
-        bytes =
-            λ bs. rw (row-parts (taskOf (rowFrom fields) times), same)
-            (joined s at m n (encodeAll fields) (encodeAll times) (f .bytes bs) (g .bytes bs));
-      }
-
-  -- the same row, ending at the same place
-  same-row : (used at : ℕ) (u : Task) (m : ℕ) (t : Task) (n : ℕ) → Row used at u m → go u m ≡ go t n → Row used at t n
-  same-row used at u m t n r e =
-      let same : u ≡ t = cc in
-      let here : m ≡ n = cc in
-      rw (← same, ← here) r
-
-  -- so does a row
-  pub row-back : (used at : ℕ) (t : Task) (n : ℕ) → rowAt used s at ≡ go t n → Row used at t n
+  -- so it is where a row was read
+  pub row-in-file : (used at : ℕ) (t : Task) (n : ℕ) → rowAt used s at ≡ go t n → Row used at t n
   unfolding rowAt
-  row-back used at t n e =
-      let a = then-read (fieldsAt (head used) [] s at) _ t n e in
-      let b = then-read (fieldsAt (replicate (rowFrom (a .what) .parts) time) [] s (a .place)) _ t n (a .rest) in
-      let fields = taken-all (head used) s at (a .what) (a .place) (a .first) in
-      let times = taken-all _ s (a .place) (b .what) (b .place) (b .first) in
-      same-row used at _ (b .place) t n (row-of used at (a .place) (b .place) (a .what) (b .what) fields times) (b .rest)
+  row-in-file used at t n e =
+      let r = row-back (in-file s) times-in-file used at t n e in
+      record { fine = r .fine; bytes = λ bs. rw (row-parts t) (r .bytes bs) }
 
   -- rows that were read behind those that are done
   pub record Rows (k at : ℕ) (done all : List Task) (n : ℕ) : Type 0 where
@@ -73,14 +57,13 @@ module _ (s : List ℕ) where
       → Row (length (allTimes done)) at t m → Rows k m (done ++ (t ∷ [])) all n → Rows (suc k) at done all n
   unfolding FineTasks
   row-more k at m n t done all f l =
-      let before : length (allTimes (done ++ (t ∷ []))) ≡ length (allTimes done) + length (t .times)
-      = ap length (each-snoc _ done t) ∙ length-append (allTimes done) (t .times) in
+      let before : length (allTimes (done ++ (t ∷ []))) ≡ length (allTimes done) + length (t .times) = each-snoc-length _ done t in
       record {
         tail = t ∷ l .tail;
         whole = l .whole ∙ append-assoc done (t ∷ []) (l .tail);
         count = ap suc (l .count);
         fine = (f .fine, rw before at (l .fine));
-        bytes = λ bs. rw (rows-more t (l .tail)) (joined s at m n (rowBytes t) (rowsBytes (l .tail)) (f .bytes bs) (l .bytes bs));
+        bytes = λ bs. rw (rows-more t (l .tail)) (both-between s at m n (rowBytes t) (rowsBytes (l .tail)) (f .bytes bs) (l .bytes bs));
       }
 
   -- and rows one after another
@@ -98,7 +81,7 @@ module _ (s : List ℕ) where
       }
   rows-back (suc k) done at all n e =
       let r = then-read (rowAt (length (allTimes done)) s at) (λ t m. rowsAt k (done ++ (t ∷ [])) s m) all n e in
-      row-more k at (r .place) n (r .what) done all (row-back _ at (r .what) (r .place) (r .first))
+      row-more k at (r .place) n (r .what) done all (row-in-file _ at (r .what) (r .place) (r .first))
       (rows-back k (done ++ (r .what ∷ [])) (r .place) all n (r .rest))
 
   -- the end: no byte is left, and no row clashes
@@ -115,7 +98,7 @@ module _ (s : List ℕ) where
     pub bytes : Bytes s → s ≡ encodeFile ts
 
   -- the row count, then the rows, then the end
-  file-of : (count at m : ℕ) (ts : List Task) → Read (field 0 64) s 0 count at → Rows count at [] ts m
+  file-of : (count at m : ℕ) (ts : List Task) → Read s (field 0 64) 0 count at → Rows count at [] ts m
       → length s ≤ m → codeOf (clashOf (rowsOf ts)) ≡ 0 → File ts
   file-of count at m ts c r ended apart =
       let all : length ts ≡ count = ap length (r .whole) ∙ r .count in
@@ -131,9 +114,9 @@ module _ (s : List ℕ) where
   pub file-back : (ts : List Task) (n : ℕ) → decode s ≡ go ts n → File ts
   unfolding decode
   file-back ts n e =
-      let a = then-read (fieldAt (field 0 64) s 0) _ ts n e in
+      let a = then-read (fieldAt s (field 0 64) 0) _ ts n e in
       let b = then-read (rowsAt (a .what) [] s (a .place)) _ ts n (a .rest) in
       let c = end-back (b .what) (b .place) ts n (b .rest) in
-      let count = field-read (field 0 64) s 0 (a .what) (a .place) (a .first) in
+      let count = field-read s (field 0 64) 0 (a .what) (a .place) (a .first) in
       let rows = rows-back (a .what) [] (a .place) (b .what) (b .place) (b .first) in
       rw (← c .2) (file-of (a .what) (a .place) (b .place) (b .what) count rows (c .0) (c .1))

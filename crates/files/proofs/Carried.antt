@@ -22,7 +22,7 @@ use Rattle.table.specs.Memory.{taskOf, allTimes, rowsOf}
 use Rattle.table.specs.Clash.{clash, breaks, ruleVerdict, broken, clashOf}
 use Rattle.table.proofs.Stored.{rows-length}
 use Rattle.table.proofs.ReadingCodes.{clash-reading}
-use Rattle.fields.specs.Stepping.{stop, unless, fieldAt, fieldsAt}
+use Rattle.fields.specs.Stepping.{stop, unless, fieldAt, fieldsAt, rowBy}
 use Rattle.fields.proofs.Near.{Stopped, Inside, Near, Any, go-near, then-near, unless-near, field-near, fields-near}
 use Rattle.files.specs.Reading.{rowAt, rowsAt, endAt, decode}
 
@@ -55,10 +55,10 @@ clash-small rows =
 module _ (s : List ℕ) where
   -- a row
   row-near : (used at : ℕ) → Inside s at → Near s Any (rowAt used s at)
-  unfolding rowAt
+  unfolding rowAt rowBy
   row-near used at h =
-      then-near s Any Any (fieldsAt (head used) [] s at) _ (fields-near s (head used) [] at h)
-      (λ fields m k p. then-near s Any Any (fieldsAt (replicate (rowFrom fields .parts) time) [] s m) _ (fields-near s _ [] m k)
+      then-near s Any Any (fieldsAt (fieldAt s) (head used) [] at) _ (fields-near s (head used) [] at h)
+      (λ fields m k p. then-near s Any Any (fieldsAt (fieldAt s) (replicate (rowFrom fields .parts) time) [] m) _ (fields-near s _ [] m k)
       (λ times n l q. go-near s Any (taskOf (rowFrom fields) times) n l tt))
 
   -- rows one after another
@@ -91,7 +91,7 @@ module _ (s : List ℕ) where
   file-near : Near s Any (decode s)
   unfolding decode
   file-near =
-      then-near s (λ v. v ≤ 64) Any (fieldAt (field 0 64) s 0) _ (field-near s (field 0 64) 0 (λ bs. omega arith))
+      then-near s (λ v. v ≤ 64) Any (fieldAt s (field 0 64) 0) _ (field-near s (field 0 64) 0 (λ bs. omega arith))
       (λ count at h most. then-near s (λ (ts : List Task). length ts ≡ 0 + count) Any (rowsAt count [] s at) _ (rows-near count [] at h)
       (λ ts n k all. let few : length ts ≡ 0 + count = all in let m : count ≤ 64 = most in end-near ts n k (omega arith)))
 

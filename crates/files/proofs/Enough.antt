@@ -22,12 +22,12 @@ use Rattle.table.specs.Fields.{Wanted, field, head, time, rowFrom}
 use Rattle.table.specs.Memory.{rowOf, allTimes}
 use Rattle.table.proofs.Heads.{good-head}
 use Rattle.table.proofs.GoodTasks.{FineTasks, times-fit}
-use Rattle.fields.specs.Stepping.{Step, stop, go, _then_, asked, fieldAt, fieldsAt}
+use Rattle.fields.specs.Stepping.{Step, stop, go, _then_, asked, fieldAt, fieldsAt, rowBy}
 use Rattle.files.specs.Reading.{rowAt, rowsAt, endAt, decode, loaded, readAnswer}
 use Rattle.files.specs.Enough.{EnoughToJudge}
 use Rattle.fields.proofs.Sizes.{bytesOf, short, bytes-head, bytes-times}
-use Rattle.fields.proofs.Taken.{field-read, taken-all, head-read}
-use Rattle.files.proofs.Back.{row-back, rows-back}
+use Rattle.fields.proofs.Taken.{field-read, in-file, taken-all, head-read}
+use Rattle.files.proofs.Back.{row-in-file, rows-back}
 use Rattle.files.proofs.Short.{row-short, rows-short}
 
 -- steps that agree, and go on alike
@@ -64,7 +64,7 @@ module _ (s : List ℕ) (bs : Bytes s) (long : 5124 ≤ length s) where
       by N.Malformed q f = let w : _≡_ {A = ℕ} 0 1 = cc in omega arith
 
   -- a wanted number is read alike
-  field-same : (w : Wanted) (at : ℕ) → at + 4 ≤ 5124 → fieldAt w s at ≡ fieldAt w z at
+  field-same : (w : Wanted) (at : ℕ) → at + 4 ≤ 5124 → fieldAt s w at ≡ fieldAt z w at
   unfolding fieldAt asked
   field-same w at h = by (numberAt s at) refl
     where
@@ -74,40 +74,42 @@ module _ (s : List ℕ) (bs : Bytes s) (long : 5124 ≤ length s) where
       by N.Malformed q = rw (← number-same at h, q)
 
   -- where a number that was read ends
-  next-ends : (w : Wanted) (at v n rest : ℕ) → at + (bytesOf w + rest) ≤ 5121 → fieldAt w s at ≡ go v n → n + rest ≤ 5121
+  next-ends : (w : Wanted) (at v n rest : ℕ) → at + (bytesOf w + rest) ≤ 5121 → fieldAt s w at ≡ go v n → n + rest ≤ 5121
   next-ends w at v n rest h e =
-      let r = field-read w s at v n e in
+      let r = field-read s w at v n e in
       let size : length (encode v) ≤ bytesOf w = unfold bytesOf in longer v (w .high) (r .fine .most) in
       omega (arith, r .bytes bs .past)
 
   -- where a row's fields end
-  fields-end : (used at : ℕ) (fields : List ℕ) (n : ℕ) → fieldsAt (head used) [] s at ≡ go fields n → n ≤ at + 16
+  fields-end : (used at : ℕ) (fields : List ℕ) (n : ℕ) → fieldsAt (fieldAt s) (head used) [] at ≡ go fields n → n ≤ at + 16
   fields-end used at fields n e =
-      let r = taken-all (head used) s at fields n e in
+      let r = taken-all (in-file s) (head used) at fields n e in
       omega (arith, r .bytes bs .past, short (head used) fields (r .fine), bytes-head used)
 
   -- its times
   times-end : (i used at : ℕ) (fields : List ℕ) (n : ℕ) → i < 64 → used ≤ 1024 → at ≤ 1 + (16 * i + 4 * used)
-      → fieldsAt (head used) [] s at ≡ go fields n → n + total bytesOf (replicate (rowFrom fields .parts) time) ≤ 5121
+      → fieldsAt (fieldAt s) (head used) [] at ≡ go fields n → n + total bytesOf (replicate (rowFrom fields .parts) time) ≤ 5121
   times-end i used at fields n few room h e =
-      rw (bytes-times (rowFrom fields .parts)) (omega (arith, fields-end used at fields n e, head-read used s at fields n e .room))
+      let room = head-read (in-file s) used at fields n e .room in
+      rw (bytes-times (rowFrom fields .parts)) (omega (arith, fields-end used at fields n e))
 
   -- numbers one after another that end by offset 5,121 at the latest
-  fields-same : (ws : List Wanted) (done : List ℕ) (at : ℕ) → at + total bytesOf ws ≤ 5121 → fieldsAt ws done s at ≡ fieldsAt ws done z at
+  fields-same : (ws : List Wanted) (done : List ℕ) (at : ℕ) → at + total bytesOf ws ≤ 5121
+      → fieldsAt (fieldAt s) ws done at ≡ fieldsAt (fieldAt z) ws done at
   unfolding fieldsAt total
   fields-same [] done at h = refl
   fields-same (w ∷ ws) done at h =
       let own : 0 < bytesOf w = unfold bytesOf in encode-some (w .high) in
-      then-same (fieldAt w s at) (fieldAt w z at) _ _ (field-same w at (omega arith))
+      then-same (fieldAt s w at) (fieldAt z w at) _ _ (field-same w at (omega arith))
       (λ v n e. fields-same ws (done ++ (v ∷ [])) n (next-ends w at v n (total bytesOf ws) h e))
 
   -- a row, the i-th with `used` times before it
   row-same : (i used at : ℕ) → i < 64 → used ≤ 1024 → at ≤ 1 + (16 * i + 4 * used) → rowAt used s at ≡ rowAt used z at
-  unfolding rowAt
+  unfolding rowAt rowBy
   row-same i used at few room h =
-      then-same (fieldsAt (head used) [] s at) (fieldsAt (head used) [] z at) _ _
+      then-same (fieldsAt (fieldAt s) (head used) [] at) (fieldsAt (fieldAt z) (head used) [] at) _ _
       (fields-same (head used) [] at (rw (bytes-head used) (omega arith)))
-      (λ fields n e. then-same (fieldsAt (replicate (rowFrom fields .parts) time) [] s n) _ _ _
+      (λ fields n e. then-same (fieldsAt (fieldAt s) (replicate (rowFrom fields .parts) time) [] n) _ _ _
       (fields-same _ [] n (times-end i used at fields n few room h e))
       (λ times m f. refl))
 
@@ -115,7 +117,7 @@ module _ (s : List ℕ) (bs : Bytes s) (long : 5124 ≤ length s) where
   row-end : (used at : ℕ) (t : Task) (n : ℕ) → rowAt used s at ≡ go t n
       → (n ≤ at + (16 + 4 * length (t .times))) × (used + length (t .times) ≤ 1024)
   row-end used at t n e =
-      let r = row-back s used at t n e in
+      let r = row-in-file s used at t n e in
       (omega (arith, r .bytes bs .past, row-short used t (r .fine)), good-head used (rowOf t) (r .fine .fields) .room)
 
   -- rows one after another
@@ -149,9 +151,9 @@ module _ (s : List ℕ) (bs : Bytes s) (long : 5124 ≤ length s) where
   file-same : decode s ≡ decode z
   unfolding decode
   file-same =
-      then-same (fieldAt (field 0 64) s 0) _ _ _ (field-same (field 0 64) 0 (omega arith))
+      then-same (fieldAt s (field 0 64) 0) _ _ _ (field-same (field 0 64) 0 (omega arith))
       (λ count at e.
-      let r = field-read (field 0 64) s 0 count at e in
+      let r = field-read s (field 0 64) 0 count at e in
       let one = length-one count (omega (arith, r .fine .most)) in
       let none : length (allTimes []) ≡ 0 = unfold each in refl in
       let first : at ≤ 1 = omega (arith, r .bytes bs .past) in

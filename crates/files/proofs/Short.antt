@@ -36,7 +36,7 @@ rows-short used (t ∷ ts) f =
     rw (rows-more t ts, length-append (rowBytes t) (rowsBytes ts), length-append (t .times) (allTimes ts)) (omega arith)
 
 -- at most 64 rows and 1,024 times
-file-short : (ts : List Task) → GoodTasks ts → length (encodeFile ts) ≤ 5121
+pub file-short : (ts : List Task) → GoodTasks ts → length (encodeFile ts) ≤ 5121
 file-short ts g =
     let count : length (encode (length ts)) ≡ 1 = length-one (length ts) (omega (arith, g .few)) in
     let times : 0 + length (allTimes ts) ≤ 1024 = times-fit 0 ts (omega arith) (g .fine) in

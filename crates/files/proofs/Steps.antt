@@ -2,66 +2,19 @@
 use Prim.Native.Nat.{ℕ, zero, suc, _-_, _<_}
 use native.Mathlib.Numerals.{sub-one}
 use native.Mathlib.Omega.{arith}
-use mathlib.Core.Path.{_≡_, ap, _∙_}
+use mathlib.Core.Path.{_≡_, _∙_}
 use mathlib.Core.List.{List, [], _∷_, _++_}
-use lib.ListN.{length, replicate}
+use lib.ListN.{length}
+use Rattle.lists.proofs.Tests.{by-test}
 use Rattle.model.specs.Task.{Task}
-use Rattle.table.specs.declared.Row.{Row}
 use Rattle.table.specs.declared.Verdict.{Verdict}
-use Rattle.table.specs.Fields.{head, time, rowFrom}
-use Rattle.table.specs.Memory.{taskOf, allTimes}
-use Rattle.fields.specs.Stepping.{Step, stop, go, _then_, fieldsAt}
-use Rattle.files.specs.declared.Head.the-variants as H
-use Rattle.files.specs.Reading.{rowAt, rowsAt}
-use Rattle.files.specs.Promises.{asHead}
-
--- a row's fields that were got, as numbers and as a row
-pub record GotHead (x : Step (List ℕ)) (row : Row) (n : ℕ) : Type 0 where
-  pub fields : List ℕ
-  pub first : x ≡ go fields n
-  pub is : rowFrom fields ≡ row
-
--- so it is where the code got them
-pub got-head : (x : Step (List ℕ)) (row : Row) (n : ℕ) → H.Got row n ≡ asHead x → GotHead x row n
-got-head (stop w) row n e = let z : _≡_ {A = ℕ} 0 1 = cc in absurd (omega arith)
-got-head (go fields m) row n e = let q : m ≡ n = cc in record { fields = fields; first = rw q; is = cc }
-
--- and where it was refused
-pub refused-head : (x : Step (List ℕ)) (v : Verdict) → H.Refused v ≡ asHead x → x ≡ stop v
-refused-head (stop w) v e = let p : w ≡ v = cc in rw p
-refused-head (go fields m) v e = let z : _≡_ {A = ℕ} 0 1 = cc in absurd (omega arith)
-
--- a row: its fields and its times, or where reading stops
-module _ (used : ℕ) (s : List ℕ) (p : ℕ) where
-  -- its fields are refused
-  pub row-fields-stop : (v : Verdict) → fieldsAt (head used) [] s p ≡ stop v → rowAt used s p ≡ stop v
-  unfolding rowAt _then_
-  row-fields-stop v e = rw e
-
-  module _ {row : Row} {n : ℕ} (g : GotHead (fieldsAt (head used) [] s p) row n) where
-    -- what follows the fields, as the row has them
-    after : Row → Step Task
-    after r = fieldsAt (replicate (r .parts) time) [] s n then λ times at. go (taskOf r times) at
-
-    -- its times follow its fields
-    first : rowAt used s p ≡ after (rowFrom (g .fields))
-    unfolding rowAt after _then_
-    first = rw (g .first)
-
-    -- as the row has them
-    row-step : rowAt used s p ≡ after row
-    row-step = first ∙ ap after (g .is)
-
-    -- its times are read
-    pub row-more : (times : List ℕ) (q : ℕ) → fieldsAt (replicate (row .parts) time) [] s n ≡ go times q
-        → rowAt used s p ≡ go (taskOf row times) q
-    unfolding after _then_
-    row-more times q e = row-step ∙ rw e
-
-    -- its times are refused
-    pub row-times-stop : (v : Verdict) → fieldsAt (replicate (row .parts) time) [] s n ≡ stop v → rowAt used s p ≡ stop v
-    unfolding after _then_
-    row-times-stop v e = row-step ∙ rw e
+use Rattle.table.specs.Verdicts.{good}
+use Rattle.table.specs.Memory.{allTimes, rowsOf, stored}
+use Rattle.table.specs.Clash.{clashOf}
+use Rattle.table.proofs.Stored.{stored-rows}
+use Rattle.fields.specs.Stepping.{stop, go, _then_, unless}
+use Rattle.files.specs.Reading.{rowAt, rowsAt, loaded}
+use Rattle.files.specs.Promises.{answerWith}
 
 -- one row more, or none
 module _ (k : ℕ) (done : List Task) (s : List ℕ) (p : ℕ) (some : 0 < k) where
@@ -85,3 +38,8 @@ module _ (k : ℕ) (done : List Task) (s : List ℕ) (p : ℕ) (some : 0 < k) wh
   pub rows-stop : (v : Verdict) → rowAt (length (allTimes done)) s p ≡ stop v → rowsAt k done s p ≡ stop v
   unfolding _then_
   rows-stop v e = rows-step ∙ rw e
+
+-- the answer with stored tasks is what the definition says after the last row
+pub answer-stored : (ts : List Task) (at : ℕ) → answerWith (stored ts) ≡ loaded (unless (clashOf (rowsOf ts)) ts at)
+unfolding answerWith unless
+answer-stored ts at = rw (stored-rows ts) (by-test (good (clashOf (rowsOf ts))) (λ e. rw e) (λ e. rw e))

@@ -6,18 +6,19 @@ use lib.Dec.{ltb}
 use Rattle.lists.specs.Lists.{pick}
 use Rattle.model.specs.Task.{Task}
 use Rattle.table.specs.declared.Verdict.the-variants.{Good, Trailing}
-use Rattle.table.specs.Fields.{field, head, time, rowFrom}
-use Rattle.fields.specs.Stepping.{Step, stop, go, _then_, unless, fieldAt, fieldsAt}
-use Rattle.table.specs.Memory.{taskOf, allTimes, stored, rowsOf}
+use Rattle.table.specs.Fields.{field, time}
+use Rattle.fields.specs.Stepping.{Step, stop, go, _then_, unless, fieldAt, fieldsAt, rowBy}
+use Rattle.table.specs.Memory.{allTimes, stored, rowsOf}
 use Rattle.table.specs.Clash.{clashOf}
 use Rattle.files.specs.declared.Loaded.{Loaded}
 
--- a row, with `used` times before it: its fields, then one worst time per part
+-- one worst time per part
+abbrev pub timesAt : List ℕ → ℕ → ℕ → Step (List ℕ)
+timesAt s parts at = fieldsAt (fieldAt s) (replicate parts time) [] at
+
+-- a row of the file, with `used` times before it
 unfoldable pub rowAt : ℕ → List ℕ → ℕ → Step Task
-rowAt used s at =
-    fieldsAt (head used) [] s at then λ fields at.
-    fieldsAt (replicate (rowFrom fields .parts) time) [] s at then λ times at.
-    go (taskOf (rowFrom fields) times) at
+rowAt used s at = rowBy (fieldAt s) (timesAt s) used at
 
 -- k more rows, behind those that are done
 unfoldable pub rowsAt : ℕ → List Task → List ℕ → ℕ → Step (List Task)
@@ -30,7 +31,7 @@ endAt s tasks at = pick (ltb at (length s)) (stop (Trailing at)) (unless (clashO
 
 -- the file: row count (0 to 64), then the rows, then the end
 unfoldable pub decode : List ℕ → Step (List Task)
-decode s = fieldAt (field 0 64) s 0 then λ count at. rowsAt count [] s at then λ tasks at. endAt s tasks at
+decode s = fieldAt s (field 0 64) 0 then λ count at. rowsAt count [] s at then λ tasks at. endAt s tasks at
 
 -- what reading answers: a refused read gives a table of zeros
 abbrev pub loaded : Step (List Task) → Loaded

@@ -6,17 +6,19 @@ ghost use lib.ListN.{length, replicate};
 ghost use lib.Seq.{sets};
 ghost use Rattle.lists.specs.Lists.{over};
 ghost use Rattle.numbers.specs.Numbers.{encodeAll};
-ghost use Rattle.table.specs.Fields.{head, time, fieldsOf};
+ghost use Rattle.table.specs.Fields.{time, fieldsOf};
 ghost use Rattle.table.specs.Verdicts.{codeOf};
 ghost use Rattle.table.specs.Faults.{faultOf};
 ghost use Rattle.table.specs.Memory.{tasksOf};
 ghost use Rattle.files.specs.Reading.{rowsAt, endAt, loaded, readAnswer};
-ghost use Rattle.fields.specs.Stepping.{stop, _then_, fieldsAt};
+ghost use Rattle.fields.specs.Stepping.{stop, _then_, fieldAt};
 ghost use Rattle.fields.specs.Promises.{ReadInto};
-ghost use Rattle.files.specs.Promises.{asHead, asBody, closed, InOrder};
+ghost use Rattle.files.specs.Promises.{asBody, answerWith, closed, InOrder};
 ghost use Rattle.files.specs.Writing.{fileNumbers, Wrote};
 use fields::Field;
+use fields::Head;
 use fields::Next;
+use fields::Way;
 use table::Row;
 use table::Table;
 use table::Verdict;
@@ -28,51 +30,22 @@ pub struct Loaded {
     pub table: Table,
 }
 
-// A row's fields before its times, or why there are none.
-enum Head {
-    Got { row: Row, next: usize },
-    Refused(Verdict),
-}
-
 // The rows that were read, and where reading goes on or why it does not.
 struct Body {
     next: Next,
     table: Table,
 }
 
-// The fields of the row that begins at `at`, where `used` times are already there.
-fn read_head(bytes: &[u8], at: usize, used: u32) -> Head
-    requires { ⌜ used ≤ 1024 ⌝ }
-    ensures { λ r. ⌜ r ≡ asHead (fieldsAt (head used) [] (now (bytes .entry)) at) ⌝ }
-{
-    let low = table::LOW;
-    let high = table::HIGH;
-    let mut fields = [0u32; 7];
-    match fields::read_fields(bytes, at, &low, &high, &mut fields[..6]) {
-        Next::Refused(v) => Head::Refused(v),
-        Next::At(p) => match fields::read_field(bytes, p, 1, 64, 1024 - used) {
-            Field::Refused(v) => Head::Refused(v),
-            Field::Got { value, next } => {
-                fields[6] = value;
-                Head::Got {
-                    row: table::row_of(fields),
-                    next,
-                }
-            }
-        },
-    }
-}
-
 // The times of a row, one for each place of `out`.
 fn read_times(bytes: &[u8], at: usize, out: &mut [u32]) -> Next
     requires { ⌜ length (now out) ≤ 64 ⌝ }
-    ensures { λ r. ⌜ ReadInto (replicate (length (now (out .entry))) time) (now (bytes .entry)) at
+    ensures { λ r. ⌜ ReadInto (fieldAt (now (bytes .entry))) (replicate (length (now (out .entry))) time) at
         (now (out .entry)) r (now (out .exit)) ⌝ }
 {
     let n = out.len();
     let low = [1u32; 64];
     let high = [16777215u32; 64];
-    fields::read_fields(bytes, at, &low[..n], &high[..n], out)
+    fields::read_fields(Way::Seven, bytes, at, &low[..n], &high[..n], out)
 }
 
 // What reading rows gives where it is refused.
@@ -96,7 +69,7 @@ fn read_rows(bytes: &[u8], at: usize, n: usize) -> Body
     let mut used: u32 = 0;
     let mut i = 0;
     while i < n {
-        match read_head(bytes, p, used) {
+        match fields::read_head(Way::Seven, bytes, p, used) {
             Head::Refused(v) => return no_rows(v),
             Head::Got { row, next } => {
                 let end = used + row.parts;
@@ -124,26 +97,33 @@ fn read_rows(bytes: &[u8], at: usize, n: usize) -> Body
 }
 
 // What a refused read gives: a table of zeros.
-fn refuse(v: Verdict) -> Loaded
+pub fn refuse(v: Verdict) -> Loaded
     ensures { λ r. ⌜ r ≡ loaded (stop v) ⌝ }
 {
     let table = table::zeros();
     Loaded { verdict: v, table }
 }
 
-// The file's end, then the rules over the whole table.
-fn read_end(bytes: &[u8], at: usize, table: Table) -> Loaded
-    ensures { λ r. ⌜ r ≡ closed (now (bytes .entry)) at table ⌝ }
+// The answer with this table: the rules over the whole of it, and where none is broken the table.
+pub fn answer_with(table: Table) -> Loaded
+    ensures { λ r. ⌜ r ≡ answerWith table ⌝ }
 {
-    if at < bytes.len() {
-        return refuse(Verdict::Trailing(at));
-    }
     let v = table::clash_of(table);
     if table::code_of(v) != 0 {
         return refuse(v);
     }
     let verdict = Verdict::Good;
     Loaded { verdict, table }
+}
+
+// The file's end, then the answer.
+fn read_end(bytes: &[u8], at: usize, table: Table) -> Loaded
+    ensures { λ r. ⌜ r ≡ closed (now (bytes .entry)) at table ⌝ }
+{
+    if at < bytes.len() {
+        return refuse(Verdict::Trailing(at));
+    }
+    answer_with(table)
 }
 
 // What follows the row count.

@@ -17,6 +17,10 @@ module _ {A B : Type 0} where
   unfolding each
   each-snoc f xs x = each-append f xs (x ∷ []) ∙ ap (_++_ (each f xs)) (append-nil (f x))
 
+  -- and adds its length
+  pub each-snoc-length : (f : A → List B) (xs : List A) (x : A) → length (each f (xs ++ (x ∷ []))) ≡ length (each f xs) + length (f x)
+  each-snoc-length f xs x = ap length (each-snoc f xs x) ∙ length-append (each f xs) (f x)
+
   -- how long all of it is
   pub each-length : (f : A → List B) (xs : List A) → length (each f xs) ≡ total (λ x. length (f x)) xs
   unfolding each total

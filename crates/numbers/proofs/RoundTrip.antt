@@ -9,7 +9,7 @@ use mathlib.Core.Path.{_≡_, refl, sym, ap, ap₂, _∙_}
 use mathlib.Core.List.{List, [], _∷_, _++_}
 use mathlib.Core.Bool.{Bool, true, false}
 use lib.ListN.{length, drop}
-use lib.Seq.{drop-append-seam, drop-drop, getD-drop}
+use lib.Seq.{drop-drop, getD-drop}
 use lib.Dec.{lit≤}
 use Rattle.numbers.specs.declared.Number.{Number}
 use Rattle.numbers.specs.declared.Number.the-variants.{Got, EndsEarly, Malformed}
@@ -54,10 +54,6 @@ read-here s rest at n h e =
     ap (λ (t : List ℕ). after 0 1 at (groups true 4 t)) (e ∙ ap (λ (f : List ℕ). f ++ rest) (sym (four n h)))
     ∙ ap (after 0 1 at) (written rest true 3 n h (λ l. refl))
     ∙ ap₂ Got (omega arith) (ap (λ (f : List ℕ). at + length f) (four n h))
-
--- and what stands after it
-pub next-here : (s front rest : List ℕ) (at : ℕ) → drop at s ≡ front ++ rest → drop (at + length front) s ≡ rest
-next-here s front rest at e = sym (drop-drop (length front) at s) ∙ ap (drop (length front)) e ∙ drop-append-seam front rest
 
 -- ---- what was read is written
 

@@ -1,16 +1,14 @@
 -- The text of a file: what reading says of it decides, and it is never longer than 29,842 bytes. Assumes nothing.
-use Prim.Native.Nat.{ℕ, _≤_, _<_}
+use Prim.Native.Nat.{ℕ, _≤_}
 use native.Mathlib.Omega.{arith}
 use borrow.Author.Tests.{eq-eqb, ne-eqb}
-use mathlib.Core.Logic.{⊎-elim}
 use mathlib.Core.Path.{_≡_, refl, sym, ap, _∙_}
 use mathlib.Core.List.{List, map}
 use lib.ListN.{length, take, length-map}
 use lib.Dec.{eqb}
 use Rattle.lists.specs.Lists.{pick, _∈_}
-use Rattle.lists.proofs.Overs.{take-over, over-length}
+use Rattle.lists.proofs.Overs.{take-over}
 use Rattle.lists.proofs.PadStores.{pad-length}
-use Rattle.lists.proofs.Tests.{either}
 use Rattle.model.specs.Task.{Task}
 use Rattle.model.specs.Rows.{GoodTask}
 use Rattle.table.specs.declared.Verdict.the-variants.{Good}
@@ -27,9 +25,8 @@ use Rattle.files.proofs.Enough.{enough-to-judge}
 use Rattle.files.proofs.Back.{file-back}
 use Rattle.files.proofs.Carried.{carried}
 use Rattle.files.proofs.Stops.{stop-fault}
-use Rattle.sheet.specs.Sheet.{fileLine, goodText, textOf, sheetText, Prints}
-use Rattle.table.specs.declared.Written.{Written}
-use Rattle.table.proofs.Writes.{refuses-room, room-good, verdict-said, wrote-count, wrote-bytes, answers-agree}
+use Rattle.sheet.specs.Sheet.{fileLine, goodText, textOf, sheetText}
+use Rattle.table.proofs.Writes.{room-good, verdict-said, wrote-count, wrote-bytes}
 use Rattle.sheet.specs.Claims.{TextIsShort, TextIsPrinted, SheetOfTheFront}
 use Rattle.sheet.proofs.Short.{code-short, file-line-short, good-short}
 
@@ -93,18 +90,3 @@ text-is-printed s bs few out r out′ p h =
       fine,
       rw (wrote-count Good (sheetText s) out r out′ p fine, wrote-bytes Good (sheetText s) out r out′ p fine) (take-over (sheetText s) out),
     )
-
--- what was written lies within the lent bytes
-pub count-within : (s : List ℕ) {out : List ℕ} {r : Written} {out′ : List ℕ} → Prints s out r out′ → r .count ≤ length out′
-count-within s {out} {r} {out′} p = ⊎-elim none some (either (length out) (length (sheetText s)))
-  where
-    none : length out < length (sheetText s) → r .count ≤ length out′
-    none h =
-        let refusal = refuses-room Good (sheetText s) out refl _ refl h in
-        omega (arith, ap (λ (x : Written). x .count) (answers-agree Good (sheetText s) out r out′ p _ _ refusal))
-
-    some : length (sheetText s) ≤ length out → r .count ≤ length out′
-    some h =
-        let fine : r .verdict ≡ Good = sym (verdict-said Good (sheetText s) out r out′ p) ∙ room-good Good (sheetText s) out refl h in
-        let bytes = ap length (wrote-bytes Good (sheetText s) out r out′ p fine) ∙ over-length (sheetText s) out h in
-        omega (arith, wrote-count Good (sheetText s) out r out′ p fine)

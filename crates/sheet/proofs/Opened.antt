@@ -11,7 +11,7 @@ use Rattle.table.specs.Clash as clash
 use Rattle.fields.specs.Stepping as stepping
 use Rattle.files.specs.Reading as reading
 use Rattle.analysis.specs.Analysis as analysis
-use Rattle.text.specs.Text.{decimalIn, decimal, line}
+use Rattle.text.specs.Text.{decimalIn, decimal, joined}
 use Rattle.sheet.specs.Sheet as sheet
 
 -- numbers one after another
@@ -26,7 +26,7 @@ rules = 0
 
 -- reading a file
 unfoldable pub bytes-read : ℕ
-unfolding numbers rules head each reading.rowAt reading.rowsAt reading.endAt reading.decode
+unfolding numbers rules head each stepping.rowBy reading.rowAt reading.rowsAt reading.endAt reading.decode
 bytes-read = 0
 
 -- sums over rows
@@ -76,7 +76,7 @@ answer-given = 0
 
 -- lines of text
 unfoldable pub lines-made : ℕ
-unfolding decimalIn decimal line each listed sheet.header sheet.boundLine sheet.coreLine sheet.fileLine
+unfolding decimalIn decimal joined each listed sheet.header sheet.boundLine sheet.coreLine sheet.fileLine
 lines-made = 0
 
 -- the text of a core, once its verdict and bounds are known

@@ -23,11 +23,12 @@ use Rattle.model.proofs.Verdict.{verdict-says}
 use Rattle.table.specs.declared.Verdict.{Verdict}
 use Rattle.table.specs.declared.Verdict.the-variants.{Good, EndsEarly, Malformed, OutOfRange, IdTwice, PriorityTwice}
 use Rattle.table.specs.declared.Verdict.the-variants.{KindsCrossed, TooManyTimes, Trailing, NoSuchCore, NoRoom, NoWindow, Missed}
+use Rattle.table.specs.declared.Verdict.the-variants.{BadText}
 use Rattle.table.specs.Verdicts.{codeOf, numberOf}
 use Rattle.table.specs.Memory.{allTimes}
 use Rattle.analysis.specs.Analysis.{needed, named}
 use Rattle.analysis.proofs.Lengths.{value-most}
-use Rattle.text.specs.Text.{decimal, line}
+use Rattle.text.specs.Text.{decimal, joined, line}
 use Rattle.sheet.specs.Sheet.{boundLine, coreLine, fileLine, header, partLine, rowLines, coreTextOf, coreText, goodText}
 use Rattle.text.proofs.Decimals.{decimal-short}
 use Rattle.sheet.proofs.CoreTexts.{said-is}
@@ -67,12 +68,12 @@ module _ (rows : List Task) (t : Task) (r : ℕ) where
 
 -- a word and a space
 line-more : (w v : List ℕ) (ws : List (List ℕ)) → length (line (w ∷ v ∷ ws)) ≡ length w + 1 + length (line (v ∷ ws))
-unfolding line
+unfolding joined
 line-more w v ws = length-append (w ++ (32 ∷ [])) (line (v ∷ ws)) ∙ rw (length-append w (32 ∷ []))
 
 -- the last word
 line-last : (w : List ℕ) → length (line (w ∷ [])) ≡ length w + 1
-unfolding line
+unfolding joined
 line-last w = length-append w (10 ∷ [])
 
 -- core 1 digit, id 5, part 2, bound and deadline 8 each, and five bytes behind them
@@ -136,6 +137,7 @@ code-short (NoSuchCore n) = lit< tt
 code-short (NoRoom n) = lit< tt
 code-short (NoWindow n) = lit< tt
 code-short (Missed n) = lit< tt
+code-short (BadText n) = lit< tt
 
 -- the task that a verdict names is one of the rows
 named-small : (rows : List Task) → AllGood rows → (v : CoreVerdict) → Judged rows v → numberOf (named v) < 100000
@@ -186,7 +188,7 @@ four (t ∷ ts) g =
 
 -- header 34, at most 1,024 lines of 29, four verdicts of 28
 pub good-short : (ts : List Task) → AllGood ts → length (allTimes ts) ≤ 1024 → length (goodText ts) ≤ 29842
-unfolding goodText each listed header line
+unfolding goodText each listed header joined
 good-short ts g few =
     let c = coreText ts in
     let short : (core : ℕ) → core ≤ 3 → length (c core) ≤ needed (onCore core ts) * 29 + 28 = λ core h. core-short ts core h g in

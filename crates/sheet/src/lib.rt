@@ -34,7 +34,7 @@ fn put_bound(out: &mut [u8], at: usize, core: u32, row: Row, r: u32, bound: u32)
     ensures { λ n. ⌜ PutAt (boundLine core (row .id) (r + 1) bound (row .deadline)) at (now (out .entry)) n (now (out .exit)) ⌝ }
 {
     let numbers = [core, row.id, r + 1, bound, row.deadline];
-    text::put_numbers(out, at, &numbers)
+    text::put_numbers(out, at, &numbers, b' ', b'\n')
 }
 
 // Writes the lines of a row, one for each of its bounds.

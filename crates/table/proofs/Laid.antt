@@ -8,6 +8,7 @@ use lib.Seq.{sets, length-take-le}
 use Rattle.lists.specs.Lists.{padTo}
 use Rattle.lists.proofs.Each.{each-snoc}
 use Rattle.lists.proofs.Pads.{set-pad}
+use Rattle.lists.proofs.Parts.{part-length}
 use Rattle.lists.proofs.PadStores.{pad-length, sets-pad}
 use Rattle.lists.proofs.Splices.{splice-sets}
 use Rattle.lists.proofs.Stores.{sets-from}
@@ -35,6 +36,10 @@ module _ {mine : List Task} {rows : List Row} {times : List ℕ} {count kept : �
   -- the part behind those that are kept, as code lends it, is what is left
   pub behind-length : kept ≤ 1024 → length (take (1024 - kept) (drop kept times)) ≡ 1024 - kept
   behind-length h = length-take-le (1024 - kept) (drop kept times) (rw (length-drop, times-long h) (omega arith))
+
+  -- the part that is lent for the times of a row has a place for each
+  pub slot : (r : Row) → kept + r .parts ≤ 1024 → length (take (kept + r .parts - kept) (drop kept times)) ≡ r .parts
+  slot r room = part-length kept (r .parts) times (rw (times-long (omega arith)) room)
 
   -- one task more, by its row and its times
   module _ (u : Task) (r : Row) (own : List ℕ) (row : r ≡ rowOf u) (times-own : own ≡ u .times) where

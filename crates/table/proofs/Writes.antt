@@ -1,13 +1,15 @@
 -- Laws of writing into lent room: what a good and a refused writing are, how code comes to each, and that nothing else is allowed.
 -- Assumes nothing.
 use Prim.Native.Nat.{ℕ, _≤_, _<_}
+use native.Mathlib.Omega.{arith}
 use borrow.Author.Tests.{lt-ltb, le-ltb}
 use mathlib.Core.Path.{_≡_, refl, sym, ap, _∙_}
 use mathlib.Core.Bool.{false}
-use mathlib.Core.List.{List}
-use lib.ListN.{length}
+use mathlib.Core.List.{List, _++_}
+use lib.ListN.{length, drop, length-append}
 use lib.Dec.{ltb}
 use Rattle.lists.specs.Lists.{pick, over}
+use Rattle.lists.proofs.Tests.{by-test}
 use Rattle.table.specs.declared.Verdict.{Verdict}
 use Rattle.table.specs.declared.Verdict.the-variants.{Good, NoRoom}
 use Rattle.table.specs.declared.Written.{Written}
@@ -73,6 +75,17 @@ module _ (fault : Verdict) (new out : List ℕ) where
     pub wrote-bytes : r .verdict ≡ Good → out′ ≡ over new out
     unfolding bytesLeft good
     wrote-bytes e = w .bytes ∙ rw (verdict-said ∙ e)
+
+    -- what was written lies within the lent bytes
+    pub count-within : r .count ≤ length out′
+    unfolding answerOn bytesLeft over
+    count-within =
+        by-test (good (verdictOn fault new (length out)))
+        (λ e.
+        let count : r .count ≡ length new = ap (λ (x : Written). x .count) (w .answer) ∙ rw e in
+        let left : out′ ≡ new ++ drop (length new) out = w .bytes ∙ rw e in
+        omega (arith, ap length left, length-append new (drop (length new) out)))
+        (λ e. let none : r .count ≡ 0 = ap (λ (x : Written). x .count) (w .answer) ∙ rw e in omega arith)
 
     -- ---- nothing else is allowed
 

@@ -28,7 +28,7 @@ pub struct Table {
     pub times: [u32; 1024],
 }
 
-// What is said of a file, a core or a table: 01's codes, each with the number it carries.
+// What is said of a file, a core, a table or a text: the documents' codes, each with the number it carries.
 pub enum Verdict {
     Good,
     EndsEarly(usize),
@@ -43,6 +43,7 @@ pub enum Verdict {
     NoRoom(usize),
     NoWindow(usize),
     Missed(usize),
+    BadText(usize),
 }
 
 // The verdict on writing bytes into lent room, and how many were written.
@@ -58,7 +59,7 @@ pub enum Rule {
     KindsCrossed,
 }
 
-// The code that 01 gives for a verdict.
+// The code that the documents give for a verdict.
 pub fn code_of(v: Verdict) -> u32
     ensures { λ r. ⌜ r ≡ codeOf v ⌝ }
 {
@@ -76,6 +77,7 @@ pub fn code_of(v: Verdict) -> u32
         Verdict::NoRoom(_) => 10,
         Verdict::NoWindow(_) => 11,
         Verdict::Missed(_) => 12,
+        Verdict::BadText(_) => 17,
     }
 }
 
@@ -96,7 +98,8 @@ pub fn number_of(v: Verdict) -> usize
         | Verdict::NoSuchCore(n)
         | Verdict::NoRoom(n)
         | Verdict::NoWindow(n)
-        | Verdict::Missed(n) => n,
+        | Verdict::Missed(n)
+        | Verdict::BadText(n) => n,
     }
 }
 

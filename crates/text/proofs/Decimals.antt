@@ -4,7 +4,7 @@ use native.Mathlib.Nat.{pow-suc, one-le-pow}
 use native.Mathlib.Omega.{arith}
 use borrow.Author.Tests.{lt-ltb, le-ltb}
 use mathlib.Core.Path.{_≡_, sym}
-use mathlib.Core.Logic.{⊎-elim}
+use mathlib.Core.Logic.{_⊎_, inl, inr, ⊎-elim}
 use mathlib.Core.List.{[], _∷_, _++_}
 use lib.ListN.{length, length-append}
 use Rattle.lists.proofs.Tests.{either}
@@ -62,3 +62,22 @@ decimal-short (suc k) n h =
     (λ high. rw (decimal-more n high, length-append (decimal (n / 10)) (digit (n % 10) ∷ []))
     (omega (arith, decimal-short k (n / 10) (omega (arith, pow-suc 10 (suc k))))))
     (either n 10)
+
+-- a larger number has no fewer digits, with the same fuel
+longer-in : (k n m : ℕ) → n ≤ m → length (decimalIn k n) ≤ length (decimalIn k m)
+unfolding decimalIn
+longer-in zero n m h = omega arith
+longer-in (suc k) n m h = by (either n 10) (either m 10) (longer-in k (n / 10) (m / 10) (omega arith))
+  where
+    by : (n < 10) ⊎ (10 ≤ n) → (m < 10) ⊎ (10 ≤ m) → length (decimalIn k (n / 10)) ≤ length (decimalIn k (m / 10))
+        → length (decimalIn (suc k) n) ≤ length (decimalIn (suc k) m)
+    by (inl a) (inl b) ih = rw (lt-ltb n 10 a, lt-ltb m 10 b) (omega arith)
+    by (inl a) (inr b) ih = rw (lt-ltb n 10 a, le-ltb m 10 b, length-append) (omega arith)
+    by (inr a) (inl b) ih = absurd (omega arith)
+    by (inr a) (inr b) ih =
+        rw (le-ltb n 10 a, le-ltb m 10 b, length-append (decimalIn k (n / 10)) _, length-append (decimalIn k (m / 10)) _) (omega arith)
+
+-- so it is in decimal
+pub decimal-longer : (n m : ℕ) → n ≤ m → length (decimal n) ≤ length (decimal m)
+unfolding decimal
+decimal-longer n m h = rw (more-fuel (suc n) (suc m) n (omega arith) (omega arith)) (longer-in (suc m) n m h)

@@ -9,7 +9,7 @@ use lib.Dec.{eqb, ltb}
 use Rattle.lists.specs.Lists.{any, each, listed}
 use Rattle.lists.proofs.Tests.{by-test}
 use Rattle.lists.proofs.Anys.{none-cons, none-append}
-use Rattle.text.specs.Text.{space, lineFeed, digit, decimalIn, decimal, line, inFirst, linesIn, LinesAreTheText}
+use Rattle.text.specs.Text.{space, lineFeed, digit, decimalIn, decimal, joined, line, inFirst, linesIn, LinesAreTheText}
 
 -- one after another, the lines of a text are the text
 pub lines-are-the-text : LinesAreTheText
@@ -71,7 +71,7 @@ pub record InLines (text : List ℕ) (ls : List (List ℕ)) : Type 0 where
 
 -- a line of words without line feeds is one
 pub line-alone : (w : List ℕ) (ws : List (List ℕ)) → hasFeed (w ∷ ws) ≡ false → InLines (line (w ∷ ws)) (line (w ∷ ws) ∷ [])
-unfolding line linesIn inFirst
+unfolding joined linesIn inFirst
 line-alone w [] e =
     let plain = none-cons (any isFeed) w [] e .0 in
     record { lines = λ rest. rw append-assoc (longer-line w (lineFeed ∷ rest) (lineFeed ∷ []) (linesIn rest) plain refl) }

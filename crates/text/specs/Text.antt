@@ -29,11 +29,15 @@ pub record Decimal : Type 0 where
   pub one : (n : ℕ) → n < 10 → decimal n ≡ digit n ∷ []
   pub more : (n : ℕ) → 10 ≤ n → decimal n ≡ decimal (n / 10) ++ (digit (n % 10) ∷ [])
 
+-- words with a byte between every two, and an end behind the last
+unfoldable pub joined : ℕ → List ℕ → List (List ℕ) → List ℕ
+joined between end [] = end
+joined between end (w ∷ []) = w ++ end
+joined between end (w ∷ v ∷ ws) = w ++ (between ∷ []) ++ joined between end (v ∷ ws)
+
 -- words separated by one space and ended by one line feed
-unfoldable pub line : List (List ℕ) → List ℕ
-line [] = lineFeed ∷ []
-line (w ∷ []) = w ++ (lineFeed ∷ [])
-line (w ∷ v ∷ ws) = w ++ (space ∷ []) ++ line (v ∷ ws)
+abbrev pub line : List (List ℕ) → List ℕ
+line ws = joined space (lineFeed ∷ []) ws
 
 -- a byte in front of lines belongs to the first
 unfoldable pub inFirst : ℕ → List (List ℕ) → List (List ℕ)

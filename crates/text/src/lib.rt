@@ -2,7 +2,7 @@
 ghost use Prim.Native.Nat.{_<_};
 ghost use mathlib.Core.List.{[], _∷_, _++_, map};
 ghost use lib.ListN.{length};
-ghost use Rattle.text.specs.Text.{decimal, line};
+ghost use Rattle.text.specs.Text.{decimal, joined};
 ghost use Rattle.text.specs.Promises.{Fits, PutAt};
 
 // Writes bytes at `at` and on; where they end.
@@ -40,17 +40,17 @@ pub fn put_decimal(out: &mut [u8], at: usize, v: usize, end: u8) -> usize
     put_word(out, at, &digits[..n], end)
 }
 
-// Writes numbers as a line.
-pub fn put_numbers(out: &mut [u8], at: usize, numbers: &[u32]) -> usize
-    requires { ⌜ (0 < length (now numbers)) × Fits (line (map decimal (now numbers))) at (now out) ⌝ }
-    ensures { λ r. ⌜ PutAt (line (map decimal (now (numbers .entry)))) at (now (out .entry)) r (now (out .exit)) ⌝ }
+// Writes numbers with a byte between every two and another behind the last.
+pub fn put_numbers(out: &mut [u8], at: usize, numbers: &[u32], between: u8, end: u8) -> usize
+    requires { ⌜ (0 < length (now numbers)) × Fits (joined between (end ∷ []) (map decimal (now numbers))) at (now out) ⌝ }
+    ensures { λ r. ⌜ PutAt (joined between (end ∷ []) (map decimal (now (numbers .entry)))) at (now (out .entry)) r (now (out .exit)) ⌝ }
 {
     let last = numbers.len() - 1;
     let mut p = at;
     let mut i = 0;
     while i < last {
-        p = put_decimal(out, p, numbers[i] as usize, b' ');
+        p = put_decimal(out, p, numbers[i] as usize, between);
         i += 1;
     }
-    put_decimal(out, p, numbers[last] as usize, b'\n')
+    put_decimal(out, p, numbers[last] as usize, end)
 }

@@ -14,7 +14,7 @@ use Rattle.fields.proofs.read_field.Statement.{statement}
 use Rattle.fields.proofs.read_field.Tie as tie
 
 -- what the number is, put into the definition
-read : (w : Wanted) (s : List ℕ) (at : ℕ) (x : Number) → x ≡ numberAt s at → asked w s at x ≡ fieldAt w s at
+read : (w : Wanted) (s : List ℕ) (at : ℕ) (x : Number) → x ≡ numberAt s at → asked w s at x ≡ fieldAt s w at
 unfolding fieldAt
 read w s at x e = ap (asked w s at) e
 

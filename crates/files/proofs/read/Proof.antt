@@ -14,12 +14,12 @@ use Rattle.files.proofs.read.Statement.{statement}
 use Rattle.files.proofs.read.Tie as tie
 
 -- the row count is refused
-stops : (s : List ℕ) (v : Verdict) → fieldAt (field 0 64) s 0 ≡ stop v → loaded (stop v) ≡ readAnswer s
+stops : (s : List ℕ) (v : Verdict) → fieldAt s (field 0 64) 0 ≡ stop v → loaded (stop v) ≡ readAnswer s
 unfolding readAnswer decode _then_
 stops s v e = rw e
 
 -- the row count is read
-goes-on : (s : List ℕ) (n at : ℕ) → fieldAt (field 0 64) s 0 ≡ go n at → loaded (rowsAt n [] s at then endAt s) ≡ readAnswer s
+goes-on : (s : List ℕ) (n at : ℕ) → fieldAt s (field 0 64) 0 ≡ go n at → loaded (rowsAt n [] s at then endAt s) ≡ readAnswer s
 unfolding readAnswer decode _then_
 goes-on s n at e = rw e
 
@@ -27,7 +27,7 @@ read-body-requires : tie.Need-read-body-requires
 read-body-requires c κs =
     let c1 = c .before in
     let read = got-field _ _ _ (sym (c1 .value .given .1) ∙ c1 .before .before .read-field .ensures) in
-    field-read (field 0 64) (now (c1 .before .before .before .before .args .bytes)) 0 _ _ read .fine .most
+    field-read (now (c1 .before .before .before .before .args .bytes)) (field 0 64) 0 _ _ read .fine .most
 
 returns : tie.Need-returns
 returns c =

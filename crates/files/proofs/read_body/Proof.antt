@@ -3,39 +3,28 @@ use Prim.Native.Nat.{ℕ}
 use native.Mathlib.Omega.{arith}
 use borrow.Author.Needs.{needs}
 use mathlib.Core.Path.{_≡_, refl, sym, ap, _∙_}
-use mathlib.Core.Bool.{Bool, true, false}
 use mathlib.Core.List.{List}
 use lib.ListN.{length}
 use lib.Dec.{ltb}
-use Rattle.lists.specs.Lists.{pick}
+use Rattle.lists.proofs.Tests.{by-test}
 use Rattle.model.specs.Task.{Task}
 use Rattle.table.specs.declared.Verdict.{Verdict}
-use Rattle.table.specs.declared.Verdict.the-variants.{Good, Trailing}
-use Rattle.table.specs.Verdicts.{good}
-use Rattle.table.specs.Memory.{rowsOf, stored}
-use Rattle.table.specs.Clash.{clashOf}
-use Rattle.table.proofs.Stored.{stored-rows}
+use Rattle.table.specs.Memory.{stored}
 use Rattle.files.specs.declared.Body.{Body}
 use Rattle.files.specs.declared.Loaded.{Loaded}
 use Rattle.fields.specs.declared.Next.{Next}
 use Rattle.fields.specs.declared.Next.the-variants.{At, Refused}
-use Rattle.fields.specs.Stepping.{Step, stop, go, _then_, unless}
+use Rattle.fields.specs.Stepping.{Step, stop, go, _then_}
 use Rattle.files.specs.Reading.{endAt, loaded}
 use Rattle.files.specs.Promises.{asBody, closed}
+use Rattle.files.proofs.Steps.{answer-stored}
 use Rattle.files.proofs.read_body.Statement.{statement}
 use Rattle.files.proofs.read_body.Tie as tie
 
 -- stored tasks are closed as the definition says
 closes : (s : List ℕ) (ts : List Task) (at : ℕ) → closed s at (stored ts) ≡ loaded (endAt s ts at)
-unfolding closed endAt unless
-closes s ts at = rw (stored-rows ts) (by (ltb at (length s)) (good (clashOf (rowsOf ts))))
-  where
-    by : (a b : Bool)
-        → pick a (loaded (stop (Trailing at))) (pick b (record { verdict = Good; table = stored ts }) (loaded (stop (clashOf (rowsOf ts)))))
-        ≡ loaded (pick a (stop (Trailing at)) (pick b (go ts at) (stop (clashOf (rowsOf ts)))))
-    by true b = refl
-    by false true = refl
-    by false false = refl
+unfolding closed endAt
+closes s ts at = by-test (ltb at (length s)) (λ e. rw e) (λ e. rw e (answer-stored ts at))
 
 module _ (s : List ℕ) (b : Body) where
   -- where the rows were read to

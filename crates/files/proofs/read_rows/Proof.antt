@@ -8,24 +8,24 @@ use mathlib.Core.Path.{_≡_, refl, sym, ap, _∙_}
 use mathlib.Core.List.{List, [], _∷_, _++_}
 use lib.ListN.{length, take, drop, set, replicate, length-replicate}
 use Rattle.lists.specs.Lists.{each}
-use Rattle.lists.proofs.Parts.{part-length}
 use Rattle.model.specs.Task.{Task}
 use Rattle.table.specs.declared.Row.{Row}
 use Rattle.table.specs.declared.Table.{Table}
 use Rattle.table.specs.declared.Verdict.{Verdict}
 use Rattle.table.specs.Fields.{head, time}
 use Rattle.table.specs.Memory.{taskOf, allTimes}
-use Rattle.table.proofs.Laid.{Laid, laid-stored, times-long, laid-part}
+use Rattle.table.proofs.Laid.{Laid, laid-stored, times-long, slot, laid-part}
 use Rattle.table.proofs.Heads.{GoodHead}
 use Rattle.table.proofs.Seven.{all-length}
 use Rattle.fields.specs.declared.Next.the-variants.{At}
-use Rattle.fields.specs.Stepping.{Step, stop, go, fieldsAt}
-use Rattle.files.specs.Reading.{rowAt, rowsAt}
+use Rattle.fields.specs.Stepping.{Step, stop, go, fieldAt, fieldsAt}
+use Rattle.files.specs.Reading.{timesAt, rowAt, rowsAt}
 use Rattle.files.specs.Promises.{asBody}
 use Rattle.fields.proofs.Into.{into-at, into-refused}
-use Rattle.files.proofs.Steps.{GotHead, got-head, refused-head}
-use Rattle.files.proofs.Steps.{row-more, row-fields-stop, row-times-stop, rows-more, rows-stop}
-use Rattle.fields.proofs.Taken.{taken-all, head-read}
+use Rattle.fields.proofs.HeadRead.{GotHead, got-head, refused-head}
+use Rattle.fields.proofs.RowRead.{row-more, row-fields-stop, row-times-stop}
+use Rattle.files.proofs.Steps.{rows-more, rows-stop}
+use Rattle.fields.proofs.Taken.{in-file, taken-all, head-read}
 use Rattle.files.proofs.read_rows.Statement.{statement}
 use Rattle.files.proofs.read_rows.Tie as tie
 
@@ -63,32 +63,34 @@ record RowGot (s : List ℕ) (at n : ℕ) (rows : List Row) (times : List ℕ) (
   so-far : Loading s at n rows times p used i
   few : n ≤ 64
   some : i < n
-  got : GotHead (fieldsAt (head used) [] s p) row q
+  got : GotHead (fieldsAt (fieldAt s) (head used) [] p) row q
 
 module _ {s : List ℕ} {at n : ℕ} {rows : List Row} {times : List ℕ} {p used i : ℕ} {row : Row} {q : ℕ}
     (g : RowGot s at n rows times p used i row q) where
   -- its fields are in their ranges
   good-row : GoodHead used row
-  good-row = rw (g .got .is) at (head-read used s p (g .got .fields) q (g .got .first))
+  good-row = rw (g .got .is) at (head-read (in-file s) used p (g .got .fields) q (g .got .first))
 
   -- the part of the times that is lent has a place for each
-  slot : length (take (used + row .parts - used) (drop used times)) ≡ row .parts
-  slot = part-length used (row .parts) times (rw (times-long (g .so-far .laid) (g .so-far .room)) (good-row .room))
+  row-slot : length (take (used + row .parts - used) (drop used times)) ≡ row .parts
+  row-slot = slot (g .so-far .laid) row (good-row .room)
 
   -- its times are refused
-  times-stop : (v : Verdict) → fieldsAt (replicate (row .parts) time) [] s q ≡ stop v → asBody (stop v) ≡ asBody (rowsAt n [] s at)
-  times-stop v e = stops (g .so-far) (g .some) v (row-times-stop used s p (g .got) v e)
+  times-stop : (v : Verdict) → timesAt s (row .parts) q ≡ stop v → asBody (stop v) ≡ asBody (rowsAt n [] s at)
+  unfolding rowAt
+  times-stop v e = stops (g .so-far) (g .some) v (row-times-stop (fieldAt s) (timesAt s) used p (g .got) v e)
 
   -- its times are read: one row more
-  turn : (ts : List ℕ) (m : ℕ) → fieldsAt (replicate (row .parts) time) [] s q ≡ go ts m
+  turn : (ts : List ℕ) (m : ℕ) → timesAt s (row .parts) q ≡ go ts m
       → Loading s at n (set rows i row) (take used times ++ (ts ++ drop (used + row .parts - used) (drop used times))) m
       (used + row .parts) (i + 1)
+  unfolding rowAt
   turn ts m read =
       let l = g .so-far in
       let times-of = replicate (row .parts) time in
-      let full = all-length _ ts (taken-all times-of s q ts m read .fine) ∙ length-replicate (row .parts) time in
+      let full = all-length _ ts (taken-all (in-file s) times-of q ts m read .fine) ∙ length-replicate (row .parts) time in
       let left : n - i - 1 ≡ n - (i + 1) = omega arith in
-      let this = here l (g .some) (row-more used s p (g .got) ts m read) in
+      let this = here l (g .some) (row-more (fieldAt s) (timesAt s) used p (g .got) ts m read) in
       let read-on = rows-more (n - i) (l .done) s p (omega (arith, g .some)) (taskOf row ts) m this in
       record {
         done = l .done ++ (taskOf row ts ∷ []);
@@ -132,7 +134,7 @@ returns : tie.Need-returns Inv-loop μ-loop
 returns c =
     let c4 = c .before .before .before .before in
     c .no-rows .ensures ∙ stops (c4 .before .before .loop .inv) (c4 .before .loop-test .taken) _
-    (row-fields-stop _ _ _ _ (refused-head _ _ (sym (c .before .before .v .given .1) ∙ c4 .read-head .ensures)))
+    (unfold rowAt in row-fields-stop _ _ _ _ _ (refused-head _ _ (sym (c .before .before .v .given .1) ∙ c4 .read-head .ensures)))
 
 part-times-end : tie.Need-part-times-end Inv-loop μ-loop
 part-times-end c =
@@ -144,13 +146,14 @@ returns-2 c =
     let c5 = c .before .before .before .before .before in
     let g = got-row (c5 .before .before .before .before) in
     c .no-rows2 .ensures ∙ times-stop g _
-    (rw (slot g) at (into-refused _ (rw (c .before .before .v2 .given .1) at (c5 .read-times .ensures))))
+    (rw (row-slot g) at (into-refused _ (rw (c .before .before .v2 .given .1) at (c5 .read-times .ensures))))
 
 loop-again : tie.Need-loop-again Inv-loop μ-loop
 loop-again c =
     let c4 = c .before .before .before .before in
     let g = got-row (c4 .before .before .before .before) in
-    turn g _ _ (rw (slot g) at (into-at _ (length-replicate _ time) (rw (c .before .q .given .1) at (c4 .read-times .ensures))))
+    let into = rw (c .before .q .given .1) at (c4 .read-times .ensures) in
+    turn g _ _ (rw (row-slot g) at (into-at (in-file _) _ (length-replicate _ time) into))
 
 pub read-rows-spec : {M : Type 1} → statement M
 read-rows-spec =
@@ -172,7 +175,7 @@ read-rows-spec =
     (λ c. omega (arith, good-row (got-row (c .before .before)) .room))
     (λ c. omega (arith, good-row (got-row (c .before .before)) .room))
     part-times-end
-    (λ c κs. let g = got-row (c .before .before .before) in rw (slot g) (good-row g .parts .most))
+    (λ c κs. let g = got-row (c .before .before .before) in rw (row-slot g) (good-row g .parts .most))
     (λ c. search needs)
     (λ c κs. search needs)
     returns-2

@@ -2,7 +2,7 @@
 use borrow.Author.Needs.{needs}
 use mathlib.Core.Path.{sym}
 use lib.Seq.{length-take-le}
-use Rattle.sheet.proofs.Files.{count-within}
+use Rattle.table.proofs.Writes.{count-within}
 use Rattle.report.proofs.main.Statement.{statement}
 use Rattle.report.proofs.main.Tie as tie
 
@@ -25,10 +25,10 @@ sheet-requires : tie.Need-sheet-requires
 sheet-requires c κs = search needs
 
 array-share-prefix-out : tie.Need-array-share-prefix-out
-array-share-prefix-out c = count-within _ (c .before .sheet .ensures)
+array-share-prefix-out c = count-within _ _ _ _ _ (c .before .sheet .ensures)
 
 slice-aggregate-write-all : tie.Need-slice-aggregate-write-all
-slice-aggregate-write-all c = sym (length-take-le _ _ (count-within _ (c .before .before .sheet .ensures)))
+slice-aggregate-write-all c = sym (length-take-le _ _ (count-within _ _ _ _ _ (c .before .before .sheet .ensures)))
 
 write-all-requires : tie.Need-write-all-requires
 write-all-requires c κs = search needs

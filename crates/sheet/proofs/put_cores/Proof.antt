@@ -7,7 +7,7 @@ use mathlib.Core.List.{List}
 use lib.ListN.{drop}
 use Rattle.table.specs.declared.Table.{Table}
 use Rattle.table.specs.Memory.{tasksOf}
-use Rattle.text.specs.Text.{line}
+use Rattle.text.specs.Text.{joined}
 use Rattle.lists.specs.Lists.{each, upTo}
 use Rattle.sheet.specs.Sheet.{header, coreText, goodText}
 use Rattle.text.specs.Promises.{Fits, PutAt}
@@ -38,11 +38,11 @@ abbrev μ-loop : tie.MeasureT-loop
 μ-loop out₀ t p₀ core₀ out p core = 4 - core
 
 put-word-requires : tie.Need-put-word-requires Inv-loop μ-loop
-unfolding header line
+unfolding header joined
 put-word-requires c κs = header-fits _ _ (c .before .before .before .pre .1)
 
 loop-holds : tie.Need-loop-holds Inv-loop μ-loop
-unfolding header line
+unfolding header joined
 loop-holds c =
     let put = c .before .before in
     starts _ _ _ (behind _ _ (put .before .before .before .before .pre .1) (put .put-word .ensures) .fits)
@@ -59,7 +59,7 @@ loop-again c =
     piece-turn _ _ _ (turned .before .loop .inv) (turned .loop-test .taken) (c .before .before .put-analysed .ensures)
 
 returns : tie.Need-returns Inv-loop μ-loop
-unfolding header line
+unfolding header joined
 returns c =
     let put = c .before .before .before .before in
     last (behind _ _ (put .before .before .before .before .pre .1) (put .put-word .ensures))

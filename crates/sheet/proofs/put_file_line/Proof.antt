@@ -8,19 +8,19 @@ use Rattle.sheet.proofs.put_file_line.Tie as tie
 
 put-word-requires : tie.Need-put-word-requires
 unfolding fileLine
-put-word-requires c κs = word-room fileWord _ _ (starts _ _ _ (c .before .before .before .pre))
+put-word-requires c κs = word-room _ _ fileWord _ _ (starts _ _ _ (c .before .before .before .pre))
 
 put-verdict-requires : tie.Need-put-verdict-requires
 unfolding fileLine
 put-verdict-requires c κs =
     let word = c .before .before .before in
-    word-turn fileWord _ _ (starts _ _ _ (word .before .before .before .before .pre)) (word .put-word .ensures) .fits
+    word-turn _ _ fileWord _ _ (starts _ _ _ (word .before .before .before .before .pre)) (word .put-word .ensures) .fits
 
 returns : tie.Need-returns
 unfolding fileLine
 returns c =
     let word = c .before .before .before .before .before .before in
-    last (word-turn fileWord _ _ (starts _ _ _ (word .before .before .before .before .pre)) (word .put-word .ensures))
+    last (word-turn _ _ fileWord _ _ (starts _ _ _ (word .before .before .before .before .pre)) (word .put-word .ensures))
     (c .before .before .put-verdict .ensures)
 
 pub put-file-line-spec : {M : Type 1} → statement M

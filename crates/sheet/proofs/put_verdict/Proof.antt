@@ -22,38 +22,38 @@ Left c n out p =
 
 -- `code` is put
 word-put : (c : tie.After-put-word) → Left c 1 (c .put-word .last .0) (c .put-word .result)
-word-put c = word-turn codeWord _ _ (starts _ _ _ (entry c .pre)) (c .put-word .ensures)
+word-put c = word-turn _ _ codeWord _ _ (starts _ _ _ (entry c .pre)) (c .put-word .ensures)
 
 -- then the code
 code-put : (c : tie.After-put-decimal) → Left (c .before .before .before .before) 2 (c .put-decimal .last .0) (c .put-decimal .result)
 code-put c =
     let w = c .before .before .before .before in
-    word-turn (decimal _) _ _ (word-put w) (rw (w .before .before .before .before .code-of .ensures) at (c .put-decimal .ensures))
+    word-turn _ _ (decimal _) _ _ (word-put w) (rw (w .before .before .before .before .code-of .ensures) at (c .put-decimal .ensures))
 
 -- then `number`
 both-put : (c : tie.After-put-word2)
     → Left (c .before .before .before .before .before .before .before .before .before) 3 (c .put-word2 .last .0) (c .put-word2 .result)
-both-put c = word-turn numberWord _ _ (code-put (c .before .before .before .before .before)) (c .put-word2 .ensures)
+both-put c = word-turn _ _ numberWord _ _ (code-put (c .before .before .before .before .before)) (c .put-word2 .ensures)
 
 put-word-requires : tie.Need-put-word-requires
-put-word-requires c κs = word-room codeWord _ _ (starts _ _ _ (c .before .before .before .before .before .pre))
+put-word-requires c κs = word-room _ _ codeWord _ _ (starts _ _ _ (c .before .before .before .before .before .pre))
 
 put-decimal-requires : tie.Need-put-decimal-requires
 put-decimal-requires c κs =
     let w = c .before .before .before in
-    rw (w .before .before .before .before .code-of .ensures) (word-room (decimal _) _ _ (word-put w))
+    rw (w .before .before .before .before .code-of .ensures) (word-room _ _ (decimal _) _ _ (word-put w))
 
 put-decimal-requires-2 : tie.Need-put-decimal-requires-2
 put-decimal-requires-2 c κs =
     let w = c .before .before .before in
     rw (w .before .before .before .before .before .before .before .before .before .before .before .before .number-of .ensures)
-    (end-room (decimal _) (both-put w))
+    (end-room _ _ (decimal _) (both-put w))
 
 returns : tie.Need-returns
 returns c =
     let w = c .before .before .before .before .before .before in
     let number = w .before .before .before .before .before .before .before .before .before .before .before .before .number-of in
-    end-put (decimal _) (both-put w) (rw (number .ensures) at (c .before .before .put-decimal2 .ensures))
+    end-put _ _ (decimal _) (both-put w) (rw (number .ensures) at (c .before .before .put-decimal2 .ensures))
 
 pub put-verdict-spec : {M : Type 1} → statement M
 put-verdict-spec =
@@ -66,7 +66,7 @@ put-verdict-spec =
     (λ c. search needs)
     put-decimal-requires
     (λ c. search needs)
-    (λ c κs. word-room numberWord _ _ (code-put (c .before .before .before .before)))
+    (λ c κs. word-room _ _ numberWord _ _ (code-put (c .before .before .before .before)))
     put-decimal-requires-2
     (λ c. search needs)
     returns)

@@ -1,50 +1,61 @@
--- `text::put_numbers` meets its contract: each number but the last and a space, then the last and the line feed. Assumes nothing.
+-- `text::put_numbers` meets its contract: each number but the last and a byte, then the last and its own. Assumes nothing.
 use Prim.Native.Nat.{ℕ, suc, _+_, _-_, _≤_, _<_}
 use native.Mathlib.Omega.{arith}
 use borrow.Author.Needs.{needs}
 use mathlib.Core.Path.{_≡_}
 use mathlib.Core.List.{List, [], _∷_, _++_, map}
 use lib.ListN.{length, getD, drop}
-use Rattle.text.specs.Text.{space, lineFeed, decimal, line}
+use Rattle.text.specs.Text.{decimal, joined}
 use Rattle.text.specs.Promises.{Fits, PutAt}
 use Rattle.text.proofs.Puts.{Putting, starts, room, turn, last}
 use Rattle.text.proofs.Lines.{numbers-more, numbers-last}
 use Rattle.text.proofs.put_numbers.Statement.{statement}
 use Rattle.text.proofs.put_numbers.Tie as tie
 
-record Numbers (ns out₀ : List ℕ) (at : ℕ) (out : List ℕ) (p i : ℕ) : Type 0 where
+-- from number i on all is left to put
+record Numbers (between end : ℕ) (ns out₀ : List ℕ) (at : ℕ) (out : List ℕ) (p i : ℕ) : Type 0 where
   upto : suc i ≤ length ns
-  putting : Putting (line (map decimal ns)) out₀ at out p (line (map decimal (drop i ns)))
+  putting :
+      Putting (joined between (end ∷ []) (map decimal ns)) out₀ at out p (joined between (end ∷ []) (map decimal (drop i ns)))
 
-module _ {ns out₀ : List ℕ} {at : ℕ} {out : List ℕ} {p i : ℕ} (n : Numbers ns out₀ at out p i) where
+module _ {between end : ℕ} {ns out₀ : List ℕ} {at : ℕ} {out : List ℕ} {p i : ℕ} (n : Numbers between end ns out₀ at out p i) where
   module _ (h : i < length ns - 1) where
-    -- the next number and a space have room
-    fits : Fits (decimal (getD ns i 0) ++ (space ∷ [])) p out
-    fits = room (n .putting) (decimal (getD ns i 0) ++ (space ∷ [])) _ (numbers-more ns i (omega arith))
+    -- the next number is not the last
+    more :
+        joined between (end ∷ []) (map decimal (drop i ns))
+        ≡ (decimal (getD ns i 0) ++ (between ∷ [])) ++ joined between (end ∷ []) (map decimal (drop (i + 1) ns))
+    more = numbers-more between (end ∷ []) ns i (omega arith)
+
+    -- it and the byte behind it have room
+    fits : Fits (decimal (getD ns i 0) ++ (between ∷ [])) p out
+    fits = room (n .putting) _ _ more
 
     -- one number more
-    step : {q : ℕ} {out′ : List ℕ} → PutAt (decimal (getD ns i 0) ++ (space ∷ [])) p out q out′ → Numbers ns out₀ at out′ q (i + 1)
-    step put = record { upto = omega arith; putting = turn (n .putting) _ _ (numbers-more ns i (omega arith)) put }
+    step : {q : ℕ} {out′ : List ℕ} → PutAt (decimal (getD ns i 0) ++ (between ∷ [])) p out q out′
+        → Numbers between end ns out₀ at out′ q (i + 1)
+    step put = record { upto = omega arith; putting = turn (n .putting) _ _ more put }
 
   module _ (h : length ns - 1 ≤ i) where
     -- the last number
-    ending : line (map decimal (drop i ns)) ≡ decimal (getD ns (length ns - 1) 0) ++ (lineFeed ∷ [])
-    ending = let e : length ns - 1 ≡ i = omega (arith, n .upto) in rw e (numbers-last ns i (omega (arith, n .upto)))
+    ending : joined between (end ∷ []) (map decimal (drop i ns)) ≡ decimal (getD ns (length ns - 1) 0) ++ (end ∷ [])
+    ending =
+        let e : length ns - 1 ≡ i = omega (arith, n .upto) in
+        rw e (numbers-last between (end ∷ []) ns i (omega (arith, n .upto)))
 
     -- it has room
-    fits-last : Fits (decimal (getD ns (length ns - 1) 0) ++ (lineFeed ∷ [])) p out
+    fits-last : Fits (decimal (getD ns (length ns - 1) 0) ++ (end ∷ [])) p out
     fits-last = rw ending at (n .putting .fits)
 
-    -- and with it the line is put
-    done : {q : ℕ} {out′ : List ℕ} → PutAt (decimal (getD ns (length ns - 1) 0) ++ (lineFeed ∷ [])) p out q out′
-        → PutAt (line (map decimal ns)) at out₀ q out′
+    -- and with it all are put
+    done : {q : ℕ} {out′ : List ℕ} → PutAt (decimal (getD ns (length ns - 1) 0) ++ (end ∷ [])) p out q out′
+        → PutAt (joined between (end ∷ []) (map decimal ns)) at out₀ q out′
     done put = last (n .putting) (rw ending put)
 
 abbrev Inv-loop : tie.InvT-loop
-Inv-loop out₀ at numbers last p₀ i₀ out p i = Numbers numbers out₀ at out p i
+Inv-loop out₀ at numbers between end last p₀ i₀ out p i = Numbers between end numbers out₀ at out p i
 
 abbrev μ-loop : tie.MeasureT-loop
-μ-loop out₀ at numbers last p₀ i₀ out p i = length numbers - i
+μ-loop out₀ at numbers between end last p₀ i₀ out p i = length numbers - i
 
 sub-last : tie.Need-sub-last Inv-loop μ-loop
 sub-last c = omega (arith, c .before .before .pre .0)

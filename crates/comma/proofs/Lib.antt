@@ -1,0 +1,13 @@
+pub mod ValueRead
+pub mod FieldRead
+pub mod TimesSteps
+pub mod LinesSteps
+pub mod LinePuts
+pub mod LineBytes
+pub mod LinesBack
+pub mod FieldHere
+pub mod LinesHere
+pub mod Sizes
+pub mod ReadSizes
+pub mod GoodTexts
+pub mod Claims

@@ -1,0 +1,53 @@
+-- `comma::read_times` meets its contract: the times that a comma ends, then the last. Assumes nothing.
+use denote.Ref.{now}
+use native.Mathlib.Omega.{arith}
+use borrow.Author.Needs.{needs}
+use mathlib.Core.Path.{sym, _∙_}
+use lib.Seq.{length-take-le}
+use Rattle.table.proofs.FieldRanges.{length-same}
+use Rattle.fields.proofs.Steps.{got-field, refused-field}
+use Rattle.comma.proofs.TimesSteps.{ranges-fit, times-stop, last-stops, times-read}
+use Rattle.comma.proofs.read_times.Statement.{statement}
+use Rattle.comma.proofs.read_times.Tie as tie
+
+pub read-times-spec : {M : Type 1} → statement M
+read-times-spec =
+    tie.close
+    (tie.spec
+    (λ c. search needs)
+    (λ c. search needs)
+    (λ c. sym (length-same 1 _ 64 (omega (arith, c .before .before .before .pre))))
+    (λ c. search needs)
+    (λ c. sym (length-same 16777215 _ 64 (omega (arith, c .before .before .before .before .pre))))
+    (λ c. search needs)
+    (λ c. sym (length-take-le _ _ (omega (arith, c .before .before .before .before .before .pre))))
+    (λ c κs.
+    let c5 = c .before .before .before .before .before in
+    ranges-fit (c5 .args .out .now) (c5 .pre .0) (c5 .pre .1))
+    (λ c. search needs)
+    (λ c. search needs)
+    (λ c κs. search needs)
+    (λ c. search needs)
+    (λ c. search needs)
+    (λ c. search needs)
+    (λ c. search needs)
+    (λ c. search needs)
+    (λ c.
+    let c5 = c .before .before .before .before .before in
+    let c11 = c5 .before .before .before .before .before .before in
+    times-stop (now (c11 .args .text)) (c11 .args .at) (c11 .args .out .now) (c11 .pre .0) (c11 .pre .1) (c5 .read-fields .ensures) _
+    (c .before .v .given .1) _)
+    (λ c. search needs)
+    (λ c.
+    let c9 = c .before .before .before .before .before .before .before .before .before in
+    let c15 = c9 .before .before .before .before .before .before in
+    last-stops (now (c15 .args .text)) (c15 .args .at) (c15 .args .out .now) (c15 .pre .0) (c15 .pre .1) (c9 .read-fields .ensures) _
+    (c .before .before .before .before .before .p .given .1) _
+    (refused-field _ _ (sym (c .before .v2 .given .1) ∙ c .before .before .before .read-text-field .ensures)) _)
+    (λ c. search needs)
+    (λ c.
+    let c9 = c .before .before .before .before .before .before .before .before .before in
+    let c15 = c9 .before .before .before .before .before .before in
+    times-read (now (c15 .args .text)) (c15 .args .at) (c15 .args .out .now) (c15 .pre .0) (c15 .pre .1) (c9 .read-fields .ensures) _
+    (c .before .before .before .before .before .p .given .1) _ _
+    (got-field _ _ _ (sym (c .before .value .given .1) ∙ c .before .before .before .read-text-field .ensures))))

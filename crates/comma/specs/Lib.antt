@@ -1,0 +1,4 @@
+pub mod Reading
+pub mod Writing
+pub mod Promises
+pub mod Claims

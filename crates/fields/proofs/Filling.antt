@@ -1,0 +1,68 @@
+-- Numbers read into lent room one by one: what was stored is done, and the rest is still to be read. Assumes nothing.
+use Prim.Native.Nat.{ℕ, _+_, _≤_, _<_}
+use native.Mathlib.Omega.{arith}
+use mathlib.Core.Path.{_≡_, refl, sym, ap, _∙_}
+use mathlib.Core.List.{List, [], _∷_, _++_}
+use lib.ListN.{length, getD, drop, set, length-append, drop-of-length-le}
+use Rattle.lists.specs.Lists.{over}
+use Rattle.lists.proofs.Overs.{over-none, over-length, over-one}
+use Rattle.table.specs.declared.Verdict.{Verdict}
+use Rattle.table.specs.Fields.{Wanted, field, wanted, LowsHighs}
+use Rattle.table.proofs.FieldRanges.{wanted-more, wanted-count}
+use Rattle.fields.specs.declared.Next.the-variants.{At, Refused}
+use Rattle.fields.specs.Stepping.{Step, stop, go, _then_, fieldsAt}
+use Rattle.fields.specs.Promises.{stepped, readBefore, ReadInto}
+
+-- each is read as `one` says; i of them are done, and the next is wanted at p
+pub record Filling (one : Wanted → ℕ → Step ℕ) (at : ℕ) (low high out₀ out : List ℕ) (p i : ℕ) : Type 0 where
+  pub ranges : LowsHighs (length out₀) low high
+  pub done : List ℕ
+  pub count : i ≡ length done
+  pub upto : i ≤ length out₀
+  pub put : out ≡ over done out₀
+  pub same : fieldsAt one (wanted low high) [] at ≡ fieldsAt one (drop i (wanted low high)) done p
+  pub before : readBefore one (wanted low high) [] at ≡ readBefore one (drop i (wanted low high)) done p
+
+-- at first none is
+pub starts : (one : Wanted → ℕ → Step ℕ) (at : ℕ) (low high out : List ℕ) → LowsHighs (length out) low high
+    → Filling one at low high out out at 0
+starts one at low high out r =
+    record { ranges = r; done = []; count = refl; upto = omega arith; put = sym (over-none _); same = refl; before = refl }
+
+module _ {one : Wanted → ℕ → Step ℕ} {at : ℕ} {low high out₀ out : List ℕ} {p i : ℕ} (f : Filling one at low high out₀ out p i) where
+  -- the length stays
+  pub long : length out ≡ length out₀
+  long = ap length (f .put) ∙ over-length (f .done) out₀ (omega (arith, f .count, f .upto))
+
+  module _ (h : i < length out) where
+    -- the next number wanted
+    next : drop i (wanted low high) ≡ field (getD low i 0) (getD high i 0) ∷ drop (i + 1) (wanted low high)
+    next = wanted-more (f .ranges) i (omega (arith, long))
+
+    -- one number more
+    pub turn : (v n : ℕ) → one (field (getD low i 0) (getD high i 0)) p ≡ go v n → Filling one at low high out₀ (set out i v) n (i + 1)
+    turn v n e = record {
+      ranges = f .ranges;
+      done = f .done ++ (v ∷ []);
+      count = rw length-append (omega (arith, f .count));
+      upto = omega (arith, long);
+      put = rw (f .put, f .count) (over-one (f .done) out₀ v (omega (arith, f .count, long)));
+      same = f .same ∙ (unfold fieldsAt _then_ in rw (next, e));
+      before = f .before ∙ (unfold readBefore stepped in rw (next, e));
+    }
+
+    -- a number is refused
+    pub halts : (v : Verdict) → one (field (getD low i 0) (getD high i 0)) p ≡ stop v
+        → ReadInto one (wanted low high) at out₀ (Refused v) out
+    halts v e = record {
+      next = unfold fieldsAt _then_ in rw (f .same, next, e);
+      room = f .put ∙ (unfold readBefore stepped in rw (f .before, next, e));
+    }
+
+  -- the room is full
+  pub ends : length out ≤ i → ReadInto one (wanted low high) at out₀ (At p) out
+  unfolding fieldsAt readBefore
+  ends h =
+      let all : length (wanted low high) ≤ i = rw (wanted-count (f .ranges)) (omega (arith, long)) in
+      let none : drop i (wanted low high) ≡ [] = drop-of-length-le (wanted low high) all in
+      record { next = rw (f .same, none); room = f .put ∙ rw (f .before, none) }
