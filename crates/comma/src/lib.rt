@@ -115,12 +115,5 @@ pub fn write(table: Table, out: &mut [u8]) -> Written
     }
     let mut text = [0u8; 11520];
     let n = put_lines(&mut text, table);
-    if out.len() < n {
-        return table::refused(Verdict::NoRoom(n));
-    }
-    text::put_bytes(out, 0, &text[..n]);
-    Written {
-        verdict: Verdict::Good,
-        count: n,
-    }
+    files::write_bytes(&text[..n], out)
 }

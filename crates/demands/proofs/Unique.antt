@@ -4,7 +4,6 @@ use mathlib.Core.Path.{_≡_, sym, _∙_}
 use mathlib.Core.List.{List}
 use Rattle.model.specs.Task.{Task}
 use Rattle.table.specs.declared.Verdict.{Verdict}
-use Rattle.table.specs.Written.{Writes}
 use Rattle.analysis.specs.Analysis.{Gives}
 use Rattle.demands.specs.Unique.{OneOnly, Unique}
 
@@ -16,18 +15,12 @@ same f r q e d = e ∙ sym d
 pub gives-one : (v : Verdict) (rows : List Task) (room : List ℕ) → OneOnly (Gives v rows room)
 gives-one v rows room r q left other a b = (same _ r q (a .answer) (b .answer), same _ left other (a .left) (b .left))
 
--- what writing gives, whatever the bytes are
-writes-one : (fault : Verdict) (new out : List ℕ) → OneOnly (Writes fault new out)
-writes-one fault new out r q left other a b = (same _ r q (a .answer) (b .answer), same _ left other (a .bytes) (b .bytes))
-
 -- all of them
 pub unique : Unique
 unique =
     record {
       put = λ v out r q left other a b. (same _ r q (a .size) (b .size), same _ left other (a .bytes) (b .bytes));
-      wrote = λ t. writes-one _ _;
-      wroteText = λ t. writes-one _ _;
+      writes = λ fault new out r q left other a b. (same _ r q (a .answer) (b .answer), same _ left other (a .bytes) (b .bytes));
       table = λ t core room. gives-one _ _ room;
       analyses = λ s core room. gives-one _ _ room;
-      prints = λ s out r q left other a b. (same _ r q (a .answer) (b .answer), same _ left other (a .bytes) (b .bytes));
     }

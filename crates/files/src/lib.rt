@@ -10,6 +10,8 @@ ghost use Rattle.table.specs.Fields.{time, fieldsOf};
 ghost use Rattle.table.specs.Verdicts.{codeOf};
 ghost use Rattle.table.specs.Faults.{faultOf};
 ghost use Rattle.table.specs.Memory.{tasksOf};
+ghost use Rattle.table.specs.Written.{Writes};
+ghost use Rattle.table.specs.declared.Verdict.the-variants.{Good};
 ghost use Rattle.files.specs.Reading.{rowsAt, endAt, loaded, readAnswer};
 ghost use Rattle.fields.specs.Stepping.{stop, _then_, fieldAt};
 ghost use Rattle.fields.specs.Promises.{ReadInto};
@@ -229,5 +231,20 @@ pub fn write(table: Table, out: &mut [u8]) -> Written
     Written {
         verdict: Verdict::Good,
         count: size,
+    }
+}
+
+// Writes bytes that are worked out into lent room: all of them, or none where they do not fit.
+pub fn write_bytes(bytes: &[u8], out: &mut [u8]) -> Written
+    ensures { λ r. ⌜ Writes Good (now (bytes .entry)) (now (out .entry)) r (now (out .exit)) ⌝ }
+{
+    let n = bytes.len();
+    if out.len() < n {
+        return table::refused(Verdict::NoRoom(n));
+    }
+    text::put_bytes(out, 0, bytes);
+    Written {
+        verdict: Verdict::Good,
+        count: n,
     }
 }

@@ -147,12 +147,5 @@ pub fn sheet(bytes: &[u8], out: &mut [u8]) -> Written
 {
     let mut text = [0u8; 29842];
     let n = put_sheet(&mut text, bytes);
-    if out.len() < n {
-        return table::refused(Verdict::NoRoom(n));
-    }
-    text::put_bytes(out, 0, &text[..n]);
-    Written {
-        verdict: Verdict::Good,
-        count: n,
-    }
+    files::write_bytes(&text[..n], out)
 }

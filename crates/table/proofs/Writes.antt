@@ -53,6 +53,13 @@ module _ (fault : Verdict) (new out : List ℕ) where
       let said : verdictOn fault new (length out) ≡ Good = room-good fine (rw same h) in
       record { answer = rw (said, same); bytes = e ∙ rw said }
 
+  -- so they are where they were written with nothing against it
+  pub nothing-against : codeOf fault ≡ 0 → {r : Written} {out′ : List ℕ} → Writes Good new out r out′ → Writes fault new out r out′
+  unfolding answerOn bytesLeft verdictOn
+  nothing-against fine w =
+      let same : verdictOn fault new (length out) ≡ verdictOn Good new (length out) = or-good fault _ fine ∙ sym (or-good Good _ refl) in
+      record { answer = w .answer ∙ rw same; bytes = w .bytes ∙ rw same }
+
   -- ---- what each is
 
   module _ (r : Written) (out′ : List ℕ) (w : Writes fault new out r out′) where

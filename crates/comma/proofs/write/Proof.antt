@@ -9,9 +9,9 @@ use Rattle.table.specs.declared.Table.{Table}
 use Rattle.table.specs.Verdicts.{codeOf}
 use Rattle.table.specs.Faults.{faultOf}
 use Rattle.table.proofs.Rows.{length-mapped}
-use Rattle.table.proofs.Writes.{refuses-fault, refuses-room, writes-all}
+use Rattle.table.proofs.Writes.{refuses-fault, nothing-against}
 use Rattle.table.proofs.GoodTasks.{tasks-good}
-use Rattle.text.proofs.Worked.{Worked, worked, copy-fits, copied}
+use Rattle.text.proofs.Worked.{Worked, worked}
 use Rattle.comma.specs.Writing.{tableLines}
 use Rattle.comma.proofs.Sizes.{text-short}
 use Rattle.comma.proofs.write.Statement.{statement}
@@ -51,16 +51,10 @@ write-spec =
     rw (c .refused .ensures) (refuses-fault _ _ _ _ _ (c2 .before .fault-of .ensures) (c2 .code-of .ensures) (c .before .if1 .taken)))
     (λ c. search needs)
     (λ c κs. (fault-free (c .before), record { room = omega (arith, short-here (c .before)) }))
+    (λ c. worked-here (c .before) .within)
+    (λ c. sym (length-take-le _ _ (worked-here (c .before .before) .within)))
     (λ c κs. search needs)
-    (λ c.
-    let c3 = c .before .before .before in
-    rw (c .refused2 .ensures) (refuses-room _ _ _ (fault-free (c3 .before .before)) _ (worked-here c3 .size) (c .before .if2 .taken)))
-    (λ c. worked-here (c .before .before .before) .within)
-    (λ c. sym (length-take-le _ _ (worked-here (c .before .before .before .before) .within)))
-    (λ c κs. copy-fits (worked-here (c .before .before .before .before)) (c .before .before .if2 .left))
     (λ c. search needs)
     (λ c.
-    let c5 = c .before .before .before .before .before in
-    let w = worked-here (c5 .before .before) in
-    writes-all _ _ _ (fault-free (c5 .before .before .before .before)) _ (w .size) (c5 .if2 .left) _
-    (copied w (c5 .if2 .left) (c .before .before .put-bytes .ensures))))
+    let put = c .before .before .before .before .before .before in
+    nothing-against _ _ _ (fault-free (put .before .before)) (rw (sym (worked-here put .front)) (c .before .before .write-bytes .ensures))))
