@@ -1,6 +1,5 @@
 -- A field is read exactly where it stands and is what it may be; how long it is, and what a plain text's are. Assumes nothing.
-use Prim.Native.Nat.{ℕ, zero, suc, _+_, _-_, _≤_, _<_}
-use native.Mathlib.Numerals.{sub-one}
+use Prim.Native.Nat.{ℕ, _+_, _-_, _≤_, _<_}
 use native.Mathlib.Omega.{arith}
 use borrow.Author.Tests.{eq-eqb}
 use mathlib.Core.Path.{_≡_, refl, sym, ap, _∙_}
@@ -18,14 +17,15 @@ use Rattle.text.proofs.Numerals.{decimal-first, decimal-end}
 use Rattle.table.specs.Verdicts.{codeOf, good, _orElse_}
 use Rattle.table.specs.Fields.{Wanted, time, judge}
 use Rattle.table.proofs.Codes.{first-good, then-good}
-use Rattle.table.proofs.Fine.{Fine, fine-good, good-fine, AllFine}
-use Rattle.fields.specs.Stepping.{Step, go, _then_, unless, fieldsAt}
+use Rattle.table.proofs.Fine.{Fine, fine-good, good-fine}
+use Rattle.fields.specs.Stepping.{go, _then_, unless}
 use Rattle.fields.proofs.Taken.{Reader, Between, between-within, both-between, passed, then-read, taken-all}
 use Rattle.fields.proofs.RowRead.{TimesReader}
+use Rattle.fields.proofs.TimesRead.{times-parts, times-fine}
 use Rattle.fields.specs.declared.Ending.{Ending}
 use Rattle.fields.specs.declared.Ending.the-variants.{Comma, Line, Text}
-use Rattle.fields.specs.TextFields.{comma, quote, valueAt, endingAt, fits, misfit, textField}
-use Rattle.comma.specs.Reading.{textTimes}
+use Rattle.fields.specs.declared.Way.the-variants.{Commas}
+use Rattle.fields.specs.TextFields.{comma, quote, valueAt, endingAt, fits, misfit, textField, textTimes}
 use Rattle.comma.specs.Writing.{lineEnd}
 use Rattle.comma.specs.Claims.{Plain}
 use Rattle.comma.proofs.LineBytes.{withComma, inLine, in-line-last}
@@ -180,54 +180,12 @@ module _ (s : List ℕ) where
         end-follows s p at v (f .end) (f .ending) n (bare s p at v (f .end) (f .value)) (f .fitting) (f .ends);
   }
 
--- fine numbers, and one more
-fine-more : (k : ℕ) (w : Wanted) (ns : List ℕ) (v : ℕ) → AllFine (replicate k w) ns → Fine w v
-    → AllFine (replicate (suc k) w) (ns ++ (v ∷ []))
-unfolding AllFine
-fine-more zero w [] v f g = (g, tt)
-fine-more zero w (n ∷ ns) v f g = absurd f
-fine-more (suc k) w [] v f g = absurd f
-fine-more (suc k) w (n ∷ ns) v f g = (f .0, fine-more k w ns v (f .1) g)
-
--- of which all but the last are one fewer
-fine-last : (k : ℕ) (w : Wanted) (ns : List ℕ) (v : ℕ) → 1 ≤ k → AllFine (replicate (k - 1) w) ns → Fine w v
-    → AllFine (replicate k w) (ns ++ (v ∷ []))
-fine-last zero w ns v some f g = absurd (omega arith)
-fine-last (suc k) w ns v some f g = fine-more k w ns v (rw sub-one at f) g
-
--- the times of a line that were read: all but the last, then the last
-pub record Times (s : List ℕ) (k at : ℕ) (ts : List ℕ) (n : ℕ) : Type 0 where
-  pub front : List ℕ
-  pub mid : ℕ
-  pub last : ℕ
-  pub before : fieldsAt (textField false s) (replicate (k - 1) time) [] at ≡ go front mid
-  pub behind : textField true s time mid ≡ go last n
-  pub whole : ts ≡ front ++ (last ∷ [])
-
--- so it is where times were read
-pub times-read : (s : List ℕ) (k at : ℕ) (ts : List ℕ) (n : ℕ) → textTimes s k at ≡ go ts n → Times s k at ts n
-unfolding textTimes
-times-read s k at ts n e =
-    let a = then-read (fieldsAt (textField false s) (replicate (k - 1) time) [] at) _ ts n e in
-    let b = then-read (textField true s time (a .place)) _ ts n (a .rest) in
-    of (a .what) (a .place) (b .what) (b .place) (a .first) (b .first) (b .rest)
-  where
-    of : (front : List ℕ) (m v p : ℕ) → fieldsAt (textField false s) (replicate (k - 1) time) [] at ≡ go front m
-        → textField true s time m ≡ go v p → _≡_ {A = Step (List ℕ)} (go (front ++ (v ∷ [])) p) (go ts n) → Times s k at ts n
-    of front m v p e f g =
-        let place : p ≡ n = cc in
-        record { front = front; mid = m; last = v; before = e; behind = rw place at f; whole = cc }
-
 -- the times of a line: at least one, and where the text is plain they stand there joined by commas
 pub times-in-text : (s : List ℕ) → TimesReader s (Plain s) inLine (textTimes s)
 times-in-text s = record {
-  fine = λ k at ts n some e.
-      let r = times-read s k at ts n e in
-      let front = taken-all (in-text s) (replicate (k - 1) time) at (r .front) (r .mid) (r .before) .fine in
-      let last = last-in-text s .fine time (r .mid) (r .last) n (r .behind) in
-      rw (r .whole) (fine-last k time (r .front) (r .last) some front last);
-  bytes = λ p k at ts n e.
-      let r = times-read s k at ts n e in
+  fine = times-fine Commas s;
+  bytes = λ p k at ts n some e.
+      let r = times-parts Commas s k at ts n some e in
       let front = taken-all (in-text s) (replicate (k - 1) time) at (r .front) (r .mid) (r .before) .bytes p in
       let last = last-in-text s .bytes p time (r .mid) (r .last) n (r .behind) in
       rw (r .whole, in-line-last (r .front) (r .last)) (both-between s at (r .mid) n _ _ front last);

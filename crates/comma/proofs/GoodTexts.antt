@@ -20,9 +20,9 @@ use Rattle.fields.proofs.Honest.{Honest, stop-honest, go-honest, unless-honest,
 use Rattle.fields.proofs.Honest.{fields-honest, row-honest}
 use Rattle.files.specs.Reading.{loaded}
 use Rattle.fields.specs.declared.Ending.{Ending}
-use Rattle.fields.specs.TextFields.{comma, quote, carriageReturn, standsAt, shortest, decimalAt, closedAt, valueAt, endingAt}
+use Rattle.fields.specs.TextFields.{comma, quote, carriageReturn, standsAt, shortest, decimalAt, closedAt, valueAt, endingAt, textTimes}
 use Rattle.fields.specs.TextFields.{textField}
-use Rattle.comma.specs.Reading.{textTimes, lineAt, linesAt, decodeText, readText}
+use Rattle.comma.specs.Reading.{lineAt, linesAt, decodeText, readText}
 use Rattle.comma.proofs.LinesBack.{text-back}
 
 -- ---- where reading stops there is a fault

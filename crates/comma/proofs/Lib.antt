@@ -1,6 +1,5 @@
 pub mod ValueRead
 pub mod FieldRead
-pub mod TimesSteps
 pub mod LinesSteps
 pub mod LinePuts
 pub mod LineBytes

@@ -21,7 +21,8 @@ use Rattle.table.proofs.GoodTasks.{FineTask, FineTasks}
 use Rattle.fields.specs.Stepping.{go, _then_, rowBy}
 use Rattle.fields.proofs.Sizes.{four-head, four-times}
 use Rattle.fields.proofs.Here.{fields-here}
-use Rattle.comma.specs.Reading.{textTimes, lineAt, linesAt}
+use Rattle.fields.specs.TextFields.{textTimes}
+use Rattle.comma.specs.Reading.{lineAt, linesAt}
 use Rattle.comma.specs.Writing.{lineEnd, lineOf, linesOf}
 use Rattle.comma.proofs.LineBytes.{withComma, inLine, in-line-last, line-parts, line-some, lines-none, lines-more}
 use Rattle.comma.proofs.LinesSteps.{lines-end}

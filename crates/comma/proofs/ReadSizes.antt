@@ -12,12 +12,14 @@ use Rattle.model.specs.Task.{Task}
 use Rattle.table.specs.Fields.{Wanted, head, time, rowFrom}
 use Rattle.table.specs.Memory.{allTimes}
 use Rattle.fields.specs.Stepping.{go}
-use Rattle.fields.proofs.Taken.{taken-all}
+use Rattle.fields.specs.declared.Way.the-variants.{Commas}
+use Rattle.fields.proofs.Taken.{taken-all, head-read}
 use Rattle.fields.proofs.RowRead.{row-pieces}
+use Rattle.fields.proofs.TimesRead.{times-parts}
 use Rattle.fields.proofs.Sizes.{fields-end}
-use Rattle.fields.specs.TextFields.{textField}
-use Rattle.comma.specs.Reading.{textTimes, lineAt, linesAt}
-use Rattle.comma.proofs.FieldRead.{in-text, field-short, times-read}
+use Rattle.fields.specs.TextFields.{textField, textTimes}
+use Rattle.comma.specs.Reading.{lineAt, linesAt}
+use Rattle.comma.proofs.FieldRead.{in-text, field-short}
 use Rattle.comma.proofs.LinesBack.{lines-by, line-in-text}
 use Rattle.comma.proofs.Sizes.{cost, head-cost, times-cost}
 
@@ -27,9 +29,9 @@ module _ (s : List ℕ) where
   field-end w at v n e = omega (arith, field-short false s w at v n e .0)
 
   -- the times of a line, and one byte more for its end
-  times-end : (k at : ℕ) (ts : List ℕ) (n : ℕ) → textTimes s k at ≡ go ts n → n ≤ at + total (cost 3) ts + 1
-  times-end k at ts n e =
-      let r = times-read s k at ts n e in
+  times-end : (k at : ℕ) (ts : List ℕ) (n : ℕ) → 1 ≤ k → textTimes s k at ≡ go ts n → n ≤ at + total (cost 3) ts + 1
+  times-end k at ts n some e =
+      let r = times-parts Commas s k at ts n some e in
       let front = fields-end (textField false s) (cost 3) field-end _ at (r .front) (r .mid) (r .before) in
       let last = field-short true s time (r .mid) (r .last) n (r .behind) .0 in
       omega (arith, front, last, ap (total (cost 3)) (r .whole), total-snoc (cost 3) (r .front) (r .last))
@@ -42,7 +44,8 @@ module _ (s : List ℕ) where
       let fields = fields-end (textField false s) (cost 3) field-end (head used) at (r .fields) (r .mid) (r .first) in
       let own = head-cost 3 used (r .fields) (taken-all (in-text s) (head used) at (r .fields) (r .mid) (r .first) .fine) in
       let same : t .times ≡ r .own = ap (λ (u : Task). u .times) (r .whole) in
-      let times = times-end (rowFrom (r .fields) .parts) (r .mid) (r .own) n (r .then-times) in
+      let some = head-read (in-text s) used at (r .fields) (r .mid) (r .first) .parts .least in
+      let times = times-end (rowFrom (r .fields) .parts) (r .mid) (r .own) n some (r .then-times) in
       let fine = line-in-text s used at t n e .fine .times in
       omega (arith, fields, own, times, ap (total (cost 3)) same, times-cost 3 (length (t .times)) (t .times) fine)
 

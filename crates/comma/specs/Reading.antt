@@ -1,26 +1,18 @@
 -- Document 02, §1: comma-separated lines, one line per row, read in text order; the first fault met is given.
-use Prim.Native.Nat.{ℕ, zero, suc, _-_}
-use mathlib.Core.Bool.{true, false}
+use Prim.Native.Nat.{ℕ, zero, suc}
+use mathlib.Core.Bool.{false}
 use mathlib.Core.List.{List, [], _∷_, _++_}
-use lib.ListN.{length, replicate}
+use lib.ListN.{length}
 use lib.Dec.{ltb}
 use Rattle.lists.specs.Lists.{pick}
 use Rattle.model.specs.Task.{Task}
 use Rattle.table.specs.declared.Verdict.the-variants.{OutOfRange}
-use Rattle.table.specs.Fields.{time}
 use Rattle.table.specs.Memory.{allTimes, rowsOf}
 use Rattle.table.specs.Clash.{clashOf}
-use Rattle.fields.specs.Stepping.{Step, stop, go, _then_, unless, fieldsAt, rowBy}
-use Rattle.fields.specs.TextFields.{textField}
+use Rattle.fields.specs.Stepping.{Step, stop, go, _then_, unless, rowBy}
+use Rattle.fields.specs.TextFields.{textField, textTimes}
 use Rattle.files.specs.declared.Loaded.{Loaded}
 use Rattle.files.specs.Reading.{loaded}
-
--- one worst time per part, the last of them the last field of the line
-unfoldable pub textTimes : List ℕ → ℕ → ℕ → Step (List ℕ)
-textTimes s parts at =
-    fieldsAt (textField false s) (replicate (parts - 1) time) [] at then λ times at.
-    textField true s time at then λ last at.
-    go (times ++ (last ∷ [])) at
 
 -- a line: a row, with `used` times before it
 unfoldable pub lineAt : ℕ → List ℕ → ℕ → Step Task

@@ -5,38 +5,16 @@ ghost use lib.ListN.{length};
 ghost use Rattle.text.specs.Promises.{Fits, PutAt};
 ghost use Rattle.table.specs.Verdicts.{codeOf};
 ghost use Rattle.table.specs.Faults.{faultOf};
-ghost use Rattle.comma.specs.Reading.{textTimes, readText};
+ghost use Rattle.comma.specs.Reading.{readText};
 ghost use Rattle.comma.specs.Writing.{tableLines, WroteText};
-ghost use Rattle.comma.specs.Promises.{Fills, lineText};
-use fields::Field;
+ghost use Rattle.comma.specs.Promises.{lineText};
 use fields::Head;
-use fields::Next;
 use fields::Way;
 use files::Loaded;
 use table::Row;
 use table::Table;
 use table::Verdict;
 use table::Written;
-
-// The times of a row, one for each place of `out`, the last of them at the line's end.
-fn read_times(text: &[u8], at: usize, out: &mut [u32]) -> Next
-    requires { ⌜ (1 ≤ length (now out)) × (length (now out) ≤ 64) ⌝ }
-    ensures { λ r. ⌜ Fills (textTimes (now (text .entry)) (length (now (out .entry))) at) r (now (out .exit)) ⌝ }
-{
-    let n = out.len() - 1;
-    let low = [1u32; 64];
-    let high = [16777215u32; 64];
-    match fields::read_fields(Way::Commas, text, at, &low[..n], &high[..n], &mut out[..n]) {
-        Next::Refused(v) => Next::Refused(v),
-        Next::At(p) => match fields::read_text_field(text, p, 1, 16777215, 16777215, true) {
-            Field::Refused(v) => Next::Refused(v),
-            Field::Got { value, next } => {
-                out[n] = value;
-                Next::At(next)
-            }
-        },
-    }
-}
 
 // Reads a text: line by line to its end, at most 64, then the rules over the whole table.
 pub fn read(text: &[u8]) -> Loaded
@@ -52,20 +30,12 @@ pub fn read(text: &[u8]) -> Loaded
         if count == 64 {
             return files::refuse(Verdict::OutOfRange(p));
         }
-        match fields::read_head(Way::Commas, text, p, used) {
+        match fields::read_row(Way::Commas, text, p, used, &mut times) {
             Head::Refused(v) => return files::refuse(v),
             Head::Got { row, next } => {
-                let end = used + row.parts;
-                let a = used as usize;
-                let e = end as usize;
-                match read_times(text, next, &mut times[a..e]) {
-                    Next::Refused(v) => return files::refuse(v),
-                    Next::At(q) => {
-                        rows[count] = row;
-                        used = end;
-                        p = q;
-                    }
-                }
+                rows[count] = row;
+                used += row.parts;
+                p = next;
             }
         }
         count += 1;

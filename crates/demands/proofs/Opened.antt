@@ -19,7 +19,7 @@ field-read = 0
 
 -- reading a text
 unfoldable pub text-read : ℕ
-unfolding bytes-read field-read reading.textTimes reading.lineAt reading.linesAt reading.decodeText
+unfolding bytes-read field-read fields.textTimes reading.lineAt reading.linesAt reading.decodeText
 text-read = 0
 
 -- the lines of rows

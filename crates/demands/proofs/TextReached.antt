@@ -15,8 +15,8 @@ use Rattle.table.specs.Fields.{Wanted, time, rowFrom}
 use Rattle.table.specs.Memory.{taskOf, allTimes, rowsOf}
 use Rattle.table.specs.Clash.{clashOf}
 use Rattle.fields.specs.Stepping.{Step, stop, _then_, unless, fieldsAt, rowBy}
-use Rattle.fields.specs.TextFields.{textField}
-use Rattle.comma.specs.Reading.{textTimes, lineAt, linesAt, decodeText}
+use Rattle.fields.specs.TextFields.{textField, textTimes}
+use Rattle.comma.specs.Reading.{lineAt, linesAt, decodeText}
 use Rattle.comma.proofs.FieldRead.{field-short}
 use Rattle.comma.proofs.LinesSteps.{lines-end}
 use Rattle.demands.specs.Reached.{Along, itsFields}

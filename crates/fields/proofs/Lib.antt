@@ -4,6 +4,8 @@ pub mod Into
 pub mod Filling
 pub mod HeadRead
 pub mod RowRead
+pub mod TimesRead
+pub mod RowStored
 pub mod Sizes
 pub mod Near
 pub mod Here

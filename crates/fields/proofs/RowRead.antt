@@ -77,7 +77,7 @@ row-pieces one times used at t n e =
 -- a way to read the times of a row: they are what they may be, and where `plain` holds they stand there in their form
 pub record TimesReader (s : List ℕ) (plain : Type 0) (form : List ℕ → List ℕ) (times : ℕ → ℕ → Step (List ℕ)) : Type 0 where
   pub fine : (k at : ℕ) (ts : List ℕ) (n : ℕ) → 1 ≤ k → times k at ≡ go ts n → AllFine (replicate k time) ts
-  pub bytes : plain → (k at : ℕ) (ts : List ℕ) (n : ℕ) → times k at ≡ go ts n → Between s at (form ts) n
+  pub bytes : plain → (k at : ℕ) (ts : List ℕ) (n : ℕ) → 1 ≤ k → times k at ≡ go ts n → Between s at (form ts) n
 
 module _ {s : List ℕ} {plain : Type 0} {form : ℕ → List ℕ} {formAll : List ℕ → List ℕ} {one : Wanted → ℕ → Step ℕ}
     {times : ℕ → ℕ → Step (List ℕ)} (reader : Reader s plain form one) (last : TimesReader s plain formAll times) where
@@ -91,12 +91,13 @@ module _ {s : List ℕ} {plain : Type 0} {form : ℕ → List ℕ} {formAll : Li
       → times (rowFrom fields .parts) m ≡ go ts n → RowRead used at (taskOf (rowFrom fields) ts) n
   row-of used at m n fields ts e f =
       let own = taken-all reader (head used) at fields m e in
-      let fine = last .fine _ m ts n (head-read reader used at fields m e .parts .least) f in
+      let some = head-read reader used at fields m e .parts .least in
+      let fine = last .fine _ m ts n some f in
       let count : length ts ≡ rowFrom fields .parts = all-length _ ts fine ∙ length-replicate (rowFrom fields .parts) time in
       let same : fieldsOf (rowOf (taskOf (rowFrom fields) ts)) ≡ fields = rw count (seven used fields (own .fine)) in
       record {
         fine = record { fields = rw same (own .fine); times = rw count fine };
-        bytes = λ p. rw same (both-between s at m n (each form fields) (formAll ts) (own .bytes p) (last .bytes p _ m ts n f));
+        bytes = λ p. rw same (both-between s at m n (each form fields) (formAll ts) (own .bytes p) (last .bytes p _ m ts n some f));
       }
 
   -- so it is where a row was read

@@ -7,10 +7,9 @@ use Rattle.table.specs.Verdicts.{_orElse_}
 use Rattle.table.specs.Fields.{Wanted, judge}
 use Rattle.table.proofs.Codes.{first-good}
 use Rattle.table.proofs.Fine.{Fine, good-fine}
-use Rattle.fields.specs.declared.Ending.{Ending}
 use Rattle.fields.specs.declared.Way.{Way}
 use Rattle.fields.specs.declared.Way.the-variants.{Seven, Commas}
-use Rattle.fields.specs.Stepping.{Step, go, unless}
+use Rattle.fields.specs.Stepping.{go}
 use Rattle.fields.specs.TextFields.{valueAt, endingAt, misfit, textField}
 use Rattle.fields.specs.Ways.{numberBy}
 use Rattle.fields.proofs.Taken.{Reader, passed, then-read, field-read}

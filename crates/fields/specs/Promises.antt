@@ -3,9 +3,12 @@ use Prim.Native.Nat.{ℕ, _-_, _<_, min}
 use mathlib.Core.Path.{_≡_}
 use mathlib.Core.List.{List, [], _∷_, _++_}
 use lib.ListN.{getD}
+use lib.Seq.{sets}
 use Rattle.lists.specs.Lists.{pick, over}
 use Rattle.text.specs.Numerals.{isDigit}
+use Rattle.model.specs.Task.{Task}
 use Rattle.table.specs.Fields.{Wanted, rowFrom}
+use Rattle.table.specs.Memory.{rowOf}
 use Rattle.fields.specs.declared.Ended.{Ended}
 use Rattle.fields.specs.declared.Ended.the-variants as E
 use Rattle.fields.specs.declared.Ending.{Ending}
@@ -43,6 +46,20 @@ readBefore one (w ∷ ws) done at = stepped done (λ value at. readBefore one ws
 pub record ReadInto (one : Wanted → ℕ → Step ℕ) (ws : List Wanted) (at : ℕ) (out : List ℕ) (r : Next) (out′ : List ℕ) : Type 0 where
   pub next : r ≡ asNext (fieldsAt one ws [] at)
   pub room : out′ ≡ over (readBefore one ws [] at) out
+
+-- numbers read into lent room: where all were read they fill it
+pub record Fills (x : Step (List ℕ)) (r : Next) (out′ : List ℕ) : Type 0 where
+  pub next : r ≡ asNext x
+  pub room : (ns : List ℕ) (n : ℕ) → x ≡ go ns n → out′ ≡ ns
+
+abbrev pub asRow : Step Task → Head
+asRow (stop v) = H.Refused v
+asRow (go t next) = H.Got (rowOf t) next
+
+-- a row read, its times stored behind the `used` ones that are there
+pub record RowInto (x : Step Task) (used : ℕ) (times : List ℕ) (r : Head) (times′ : List ℕ) : Type 0 where
+  pub next : r ≡ asRow x
+  pub stored : (t : Task) (n : ℕ) → x ≡ go t n → times′ ≡ sets times used (t .times)
 
 -- ---- a field of text
 

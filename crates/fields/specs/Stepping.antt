@@ -1,7 +1,7 @@
 -- Document 01, "Codes and what they leave": reading goes number by number, and the first fault met is given.
 use Prim.Native.Nat.{ℕ}
 use mathlib.Core.List.{List, [], _∷_, _++_}
-use lib.ListN.{length}
+use lib.ListN.{length, replicate}
 use Rattle.lists.specs.Lists.{pick}
 use Rattle.model.specs.Task.{Task}
 use Rattle.numbers.specs.Numbers.{numberAt}
@@ -10,7 +10,7 @@ use Rattle.numbers.specs.declared.Number.the-variants as N
 use Rattle.table.specs.declared.Verdict.{Verdict}
 use Rattle.table.specs.declared.Verdict.the-variants.{EndsEarly, Malformed}
 use Rattle.table.specs.Verdicts.{good}
-use Rattle.table.specs.Fields.{Wanted, head, rowFrom, judge}
+use Rattle.table.specs.Fields.{Wanted, head, time, rowFrom, judge}
 use Rattle.table.specs.Memory.{taskOf}
 
 -- reading stops at a fault, or goes on from the next place with what was read
@@ -42,6 +42,10 @@ fieldAt s w at = asked w s at (numberAt s at)
 unfoldable pub fieldsAt : (Wanted → ℕ → Step ℕ) → List Wanted → List ℕ → ℕ → Step (List ℕ)
 fieldsAt one [] done at = go done at
 fieldsAt one (w ∷ ws) done at = one w at then λ value at. fieldsAt one ws (done ++ (value ∷ [])) at
+
+-- the times of a row of a file: one worst time per part
+abbrev pub timesAt : List ℕ → ℕ → ℕ → Step (List ℕ)
+timesAt s parts at = fieldsAt (fieldAt s) (replicate parts time) [] at
 
 -- a row, with `used` times before it: its fields, each read as `one` says, then one worst time per part
 unfoldable pub rowBy : (Wanted → ℕ → Step ℕ) → (ℕ → ℕ → Step (List ℕ)) → ℕ → ℕ → Step Task

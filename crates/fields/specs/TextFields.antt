@@ -1,8 +1,8 @@
 -- Document 02, §1: a field of comma-separated lines as in RFC 4180, read in text order; the first fault met is given.
-use Prim.Native.Nat.{ℕ, _+_}
-use mathlib.Core.Bool.{Bool, not}
-use mathlib.Core.List.{List, [], _∷_}
-use lib.ListN.{length, drop, getD}
+use Prim.Native.Nat.{ℕ, _+_, _-_}
+use mathlib.Core.Bool.{Bool, true, false, not}
+use mathlib.Core.List.{List, [], _∷_, _++_}
+use lib.ListN.{length, drop, getD, replicate}
 use lib.Dec.{eqb, ltb}
 use Rattle.lists.specs.Lists.{pick}
 use Rattle.text.specs.Text.{lineFeed}
@@ -10,8 +10,8 @@ use Rattle.text.specs.Numerals.{digitsIn, numeral}
 use Rattle.table.specs.declared.Verdict.{Verdict}
 use Rattle.table.specs.declared.Verdict.the-variants.{Good, BadText}
 use Rattle.table.specs.Verdicts.{_orElse_}
-use Rattle.table.specs.Fields.{Wanted, judge}
-use Rattle.fields.specs.Stepping.{Step, stop, go, _then_, unless}
+use Rattle.table.specs.Fields.{Wanted, time, judge}
+use Rattle.fields.specs.Stepping.{Step, stop, go, _then_, unless, fieldsAt}
 use Rattle.fields.specs.declared.Ending.{Ending}
 use Rattle.fields.specs.declared.Ending.the-variants.{Comma, Line, Text}
 
@@ -71,3 +71,10 @@ textField last s w at =
     valueAt s at then λ value end.
     endingAt s end then λ ending next.
     unless (judge w at value orElse misfit last ending end) value next
+
+-- the times of a line: one worst time per part, the last of them the last field of the line
+unfoldable pub textTimes : List ℕ → ℕ → ℕ → Step (List ℕ)
+textTimes s parts at =
+    fieldsAt (textField false s) (replicate (parts - 1) time) [] at then λ times at.
+    textField true s time at then λ last at.
+    go (times ++ (last ∷ [])) at

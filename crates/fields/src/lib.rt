@@ -6,8 +6,8 @@ ghost use lib.ListN.{length, getD};
 ghost use Rattle.table.specs.Fields.{head, want, wanted, LowsHighs};
 ghost use Rattle.fields.specs.Stepping.{fieldAt, fieldsAt};
 ghost use Rattle.fields.specs.TextFields.{decimalAt, valueAt, endingAt, fits, textField};
-ghost use Rattle.fields.specs.Ways.{numberBy};
-ghost use Rattle.fields.specs.Promises.{asField, asHead, ReadInto, digitOr, held, AllBelow, asEnded};
+ghost use Rattle.fields.specs.Ways.{numberBy, lastBy, timesBy, rowIn};
+ghost use Rattle.fields.specs.Promises.{asField, asHead, ReadInto, Fills, RowInto, digitOr, held, AllBelow, asEnded};
 use numbers::Number;
 use table::Row;
 use table::Verdict;
@@ -18,7 +18,7 @@ pub enum Field {
     Refused(Verdict),
 }
 
-// A row's fields before its times, or why there are none.
+// A row, and where reading goes on behind its fields or its times, or why there is none.
 pub enum Head {
     Got { row: Row, next: usize },
     Refused(Verdict),
@@ -185,7 +185,7 @@ fn fits(last: bool, ending: Ending) -> bool
 }
 
 // The field of a text at `at`, from `low` to `high` and at most `left`: its text, its range, then whether its stop fits.
-pub fn read_text_field(text: &[u8], at: usize, low: u32, high: u32, left: u32, last: bool) -> Field
+fn read_text_field(text: &[u8], at: usize, low: u32, high: u32, left: u32, last: bool) -> Field
     requires { ⌜ high < 16777216 ⌝ }
     ensures { λ r. ⌜ r ≡ asField (textField last (now (text .entry)) (want low high left) at) ⌝ }
 {
@@ -219,7 +219,7 @@ fn read_number(way: Way, bytes: &[u8], at: usize, low: u32, high: u32, left: u32
 }
 
 // As many numbers as `out` has room for, each in its own range, from `at` on.
-pub fn read_fields(
+fn read_fields(
     way: Way,
     bytes: &[u8],
     at: usize,
@@ -248,7 +248,7 @@ pub fn read_fields(
 }
 
 // The fields of the row that begins at `at`, where `used` times are already there.
-pub fn read_head(way: Way, bytes: &[u8], at: usize, used: u32) -> Head
+fn read_head(way: Way, bytes: &[u8], at: usize, used: u32) -> Head
     requires { ⌜ used ≤ 1024 ⌝ }
     ensures { λ r. ⌜ r ≡ asHead (fieldsAt (numberBy way (now (bytes .entry))) (head used) [] at) ⌝ }
 {
@@ -267,5 +267,53 @@ pub fn read_head(way: Way, bytes: &[u8], at: usize, used: u32) -> Head
                 }
             }
         },
+    }
+}
+
+// The last time of a row, at `at`: of a line of text, the field at its end.
+fn read_last(way: Way, bytes: &[u8], at: usize) -> Field
+    ensures { λ r. ⌜ r ≡ asField (lastBy way (now (bytes .entry)) at) ⌝ }
+{
+    match way {
+        Way::Seven => read_field(bytes, at, 1, 16777215, 16777215),
+        Way::Commas => read_text_field(bytes, at, 1, 16777215, 16777215, true),
+    }
+}
+
+// The times of a row, one for each place of `out`.
+fn read_times(way: Way, bytes: &[u8], at: usize, out: &mut [u32]) -> Next
+    requires { ⌜ (1 ≤ length (now out)) × (length (now out) ≤ 64) ⌝ }
+    ensures { λ r. ⌜ Fills (timesBy way (now (bytes .entry)) (length (now (out .entry))) at) r (now (out .exit)) ⌝ }
+{
+    let n = out.len() - 1;
+    let low = [1u32; 64];
+    let high = [16777215u32; 64];
+    match read_fields(way, bytes, at, &low[..n], &high[..n], &mut out[..n]) {
+        Next::Refused(v) => Next::Refused(v),
+        Next::At(p) => match read_last(way, bytes, p) {
+            Field::Refused(v) => Next::Refused(v),
+            Field::Got { value, next } => {
+                out[n] = value;
+                Next::At(next)
+            }
+        },
+    }
+}
+
+// The row that begins at `at`, its times stored behind the `used` ones that are already there.
+pub fn read_row(way: Way, bytes: &[u8], at: usize, used: u32, times: &mut [u32]) -> Head
+    requires { ⌜ (used ≤ 1024) × (length (now times) ≡ 1024) ⌝ }
+    ensures { λ r. ⌜ RowInto (rowIn way (now (bytes .entry)) used at) used (now (times .entry)) r (now (times .exit)) ⌝ }
+{
+    match read_head(way, bytes, at, used) {
+        Head::Refused(v) => Head::Refused(v),
+        Head::Got { row, next } => {
+            let a = used as usize;
+            let e = a + row.parts as usize;
+            match read_times(way, bytes, next, &mut times[a..e]) {
+                Next::Refused(v) => Head::Refused(v),
+                Next::At(q) => Head::Got { row, next: q },
+            }
+        }
     }
 }

@@ -17,9 +17,11 @@ use Rattle.table.specs.Fields.{field, time}
 use Rattle.table.specs.Memory.{allTimes, rowsOf}
 use Rattle.table.specs.Clash.{clashOf}
 use Rattle.table.proofs.GoodTasks.{FineTask, FineTasks, GoodTasks}
-use Rattle.fields.specs.Stepping.{stop, go, fieldAt}
+use Rattle.fields.specs.Stepping.{stop, go, fieldAt, timesAt}
+use Rattle.fields.specs.declared.Way.the-variants.{Seven}
 use Rattle.fields.proofs.RowRead.{TimesReader, row-back}
-use Rattle.files.specs.Reading.{timesAt, rowAt, rowsAt, endAt, decode}
+use Rattle.fields.proofs.TimesRead.{times-fine}
+use Rattle.files.specs.Reading.{rowAt, rowsAt, endAt, decode}
 use Rattle.files.specs.Writing.{encodeFile}
 use Rattle.fields.proofs.Taken.{Between, both-between, stopped-not, passed, then-read, Read, field-read, in-file, taken-all}
 use Rattle.files.proofs.RowBytes.{rowBytes, rowsBytes, row-parts, rows-none, rows-more, file-parts}
@@ -28,8 +30,8 @@ module _ (s : List ℕ) where
   -- the times of a row in a file
   pub times-in-file : TimesReader s (Bytes s) encodeAll (timesAt s)
   times-in-file = record {
-    fine = λ k at ts n h e. taken-all (in-file s) (replicate k time) at ts n e .fine;
-    bytes = λ bs k at ts n e. taken-all (in-file s) (replicate k time) at ts n e .bytes bs;
+    fine = times-fine Seven s;
+    bytes = λ bs k at ts n some e. taken-all (in-file s) (replicate k time) at ts n e .bytes bs;
   }
 
   -- a row that was read

@@ -1,20 +1,16 @@
 -- Document 01, "The file" and "Codes and what they leave": reading goes number by number, and the first fault met is given.
 use Prim.Native.Nat.{ℕ, zero, suc}
 use mathlib.Core.List.{List, [], _∷_, _++_}
-use lib.ListN.{length, replicate}
+use lib.ListN.{length}
 use lib.Dec.{ltb}
 use Rattle.lists.specs.Lists.{pick}
 use Rattle.model.specs.Task.{Task}
 use Rattle.table.specs.declared.Verdict.the-variants.{Good, Trailing}
-use Rattle.table.specs.Fields.{field, time}
-use Rattle.fields.specs.Stepping.{Step, stop, go, _then_, unless, fieldAt, fieldsAt, rowBy}
+use Rattle.table.specs.Fields.{field}
+use Rattle.fields.specs.Stepping.{Step, stop, go, _then_, unless, fieldAt, timesAt, rowBy}
 use Rattle.table.specs.Memory.{allTimes, stored, rowsOf}
 use Rattle.table.specs.Clash.{clashOf}
 use Rattle.files.specs.declared.Loaded.{Loaded}
-
--- one worst time per part
-abbrev pub timesAt : List ℕ → ℕ → ℕ → Step (List ℕ)
-timesAt s parts at = fieldsAt (fieldAt s) (replicate parts time) [] at
 
 -- a row of the file, with `used` times before it
 unfoldable pub rowAt : ℕ → List ℕ → ℕ → Step Task

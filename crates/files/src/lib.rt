@@ -2,19 +2,18 @@
 ghost use mathlib.Core.Path.{_≡_};
 ghost use mathlib.Core.List.{[], _++_};
 ghost use Prim.Native.Nat.{_+_, _≤_};
-ghost use lib.ListN.{length, replicate};
+ghost use lib.ListN.{length};
 ghost use lib.Seq.{sets};
 ghost use Rattle.lists.specs.Lists.{over};
 ghost use Rattle.numbers.specs.Numbers.{encodeAll};
-ghost use Rattle.table.specs.Fields.{time, fieldsOf};
+ghost use Rattle.table.specs.Fields.{fieldsOf};
 ghost use Rattle.table.specs.Verdicts.{codeOf};
 ghost use Rattle.table.specs.Faults.{faultOf};
 ghost use Rattle.table.specs.Memory.{tasksOf};
 ghost use Rattle.table.specs.Written.{Writes};
 ghost use Rattle.table.specs.declared.Verdict.the-variants.{Good};
 ghost use Rattle.files.specs.Reading.{rowsAt, endAt, loaded, readAnswer};
-ghost use Rattle.fields.specs.Stepping.{stop, _then_, fieldAt};
-ghost use Rattle.fields.specs.Promises.{ReadInto};
+ghost use Rattle.fields.specs.Stepping.{stop, _then_};
 ghost use Rattle.files.specs.Promises.{asBody, answerWith, closed, InOrder};
 ghost use Rattle.files.specs.Writing.{fileNumbers, Wrote};
 use fields::Field;
@@ -38,18 +37,6 @@ struct Body {
     table: Table,
 }
 
-// The times of a row, one for each place of `out`.
-fn read_times(bytes: &[u8], at: usize, out: &mut [u32]) -> Next
-    requires { ⌜ length (now out) ≤ 64 ⌝ }
-    ensures { λ r. ⌜ ReadInto (fieldAt (now (bytes .entry))) (replicate (length (now (out .entry))) time) at
-        (now (out .entry)) r (now (out .exit)) ⌝ }
-{
-    let n = out.len();
-    let low = [1u32; 64];
-    let high = [16777215u32; 64];
-    fields::read_fields(Way::Seven, bytes, at, &low[..n], &high[..n], out)
-}
-
 // What reading rows gives where it is refused.
 fn no_rows(v: Verdict) -> Body
     ensures { λ r. ⌜ r ≡ asBody (stop v) ⌝ }
@@ -71,20 +58,12 @@ fn read_rows(bytes: &[u8], at: usize, n: usize) -> Body
     let mut used: u32 = 0;
     let mut i = 0;
     while i < n {
-        match fields::read_head(Way::Seven, bytes, p, used) {
+        match fields::read_row(Way::Seven, bytes, p, used, &mut times) {
             Head::Refused(v) => return no_rows(v),
             Head::Got { row, next } => {
-                let end = used + row.parts;
-                let a = used as usize;
-                let e = end as usize;
-                match read_times(bytes, next, &mut times[a..e]) {
-                    Next::Refused(v) => return no_rows(v),
-                    Next::At(q) => {
-                        rows[i] = row;
-                        used = end;
-                        p = q;
-                    }
-                }
+                rows[i] = row;
+                used += row.parts;
+                p = next;
             }
         }
         i += 1;

@@ -8,9 +8,7 @@ use lib.Seq.{sets, length-take-le}
 use Rattle.lists.specs.Lists.{padTo}
 use Rattle.lists.proofs.Each.{each-snoc}
 use Rattle.lists.proofs.Pads.{set-pad}
-use Rattle.lists.proofs.Parts.{part-length}
 use Rattle.lists.proofs.PadStores.{pad-length, sets-pad}
-use Rattle.lists.proofs.Splices.{splice-sets}
 use Rattle.lists.proofs.Stores.{sets-from}
 use Rattle.model.specs.Task.{Task}
 use Rattle.table.specs.declared.Row.{Row}
@@ -37,10 +35,6 @@ module _ {mine : List Task} {rows : List Row} {times : List ℕ} {count kept : �
   pub behind-length : kept ≤ 1024 → length (take (1024 - kept) (drop kept times)) ≡ 1024 - kept
   behind-length h = length-take-le (1024 - kept) (drop kept times) (rw (length-drop, times-long h) (omega arith))
 
-  -- the part that is lent for the times of a row has a place for each
-  pub slot : (r : Row) → kept + r .parts ≤ 1024 → length (take (kept + r .parts - kept) (drop kept times)) ≡ r .parts
-  slot r room = part-length kept (r .parts) times (rw (times-long (omega arith)) room)
-
   -- one task more, by its row and its times
   module _ (u : Task) (r : Row) (own : List ℕ) (row : r ≡ rowOf u) (times-own : own ≡ u .times) where
     -- the row is set behind the rows
@@ -57,7 +51,7 @@ module _ {mine : List Task} {rows : List Row} {times : List ℕ} {count kept : �
         rw (l .times-are, l .total, times-own, each-snoc) (sets-pad 0 1024 (allTimes mine) (u .times) room)
 
     -- and the task lies behind the others
-    laid-sets : (after : List ℕ) → count < 64 → kept + length own ≤ 1024 → after ≡ sets times kept own
+    pub laid-sets : (after : List ℕ) → count < 64 → kept + length own ≤ 1024 → after ≡ sets times kept own
         → Laid (mine ++ (u ∷ [])) (set rows count r) after (count + 1) (kept + r .parts)
     laid-sets after few room e =
         record {
@@ -74,12 +68,3 @@ module _ {mine : List Task} {rows : List Row} {times : List ℕ} {count kept : �
     laid-more part few room e =
         let long : length times ≡ 1024 = times-long (omega arith) in
         laid-sets _ few room (rw (e, ← long) (sets-from times kept own (omega arith)))
-
-    -- and where as many are lent as the row has parts
-    pub laid-part : count < 64 → kept + r .parts ≤ 1024
-        → Laid (mine ++ (u ∷ [])) (set rows count r) (take kept times ++ (own ++ drop (kept + r .parts - kept) (drop kept times)))
-        (count + 1) (kept + r .parts)
-    laid-part few room =
-        let long : length times ≡ 1024 = times-long (omega arith) in
-        let full : length own ≡ r .parts = ap length times-own ∙ sym (ap (λ (x : Row). x .parts) row) in
-        laid-sets _ few (rw full room) (splice-sets times kept (r .parts) own full (rw long room))

@@ -1,14 +1,14 @@
--- `comma::read_times` meets its contract: the times that a comma ends, then the last. Assumes nothing.
+-- `fields::read_times` meets its contract: all times but the last, then the last. Assumes nothing.
 use denote.Ref.{now}
 use native.Mathlib.Omega.{arith}
 use borrow.Author.Needs.{needs}
 use mathlib.Core.Path.{sym, _∙_}
 use lib.Seq.{length-take-le}
 use Rattle.table.proofs.FieldRanges.{length-same}
 use Rattle.fields.proofs.Steps.{got-field, refused-field}
-use Rattle.comma.proofs.TimesSteps.{ranges-fit, times-stop, last-stops, times-read}
-use Rattle.comma.proofs.read_times.Statement.{statement}
-use Rattle.comma.proofs.read_times.Tie as tie
+use Rattle.fields.proofs.TimesRead.{ranges-fit, times-stop, last-stops, times-read}
+use Rattle.fields.proofs.read_times.Statement.{statement}
+use Rattle.fields.proofs.read_times.Tie as tie
 
 pub read-times-spec : {M : Type 1} → statement M
 read-times-spec =
@@ -35,19 +35,19 @@ read-times-spec =
     (λ c.
     let c5 = c .before .before .before .before .before in
     let c11 = c5 .before .before .before .before .before .before in
-    times-stop (now (c11 .args .text)) (c11 .args .at) (c11 .args .out .now) (c11 .pre .0) (c11 .pre .1) (c5 .read-fields .ensures) _
+    times-stop (c11 .args .way) (now (c11 .args .bytes)) (c11 .args .at) (c11 .args .out .now) (c11 .pre .0) (c11 .pre .1) (c5 .read-fields .ensures) _
     (c .before .v .given .1) _)
     (λ c. search needs)
     (λ c.
     let c9 = c .before .before .before .before .before .before .before .before .before in
     let c15 = c9 .before .before .before .before .before .before in
-    last-stops (now (c15 .args .text)) (c15 .args .at) (c15 .args .out .now) (c15 .pre .0) (c15 .pre .1) (c9 .read-fields .ensures) _
+    last-stops (c15 .args .way) (now (c15 .args .bytes)) (c15 .args .at) (c15 .args .out .now) (c15 .pre .0) (c15 .pre .1) (c9 .read-fields .ensures) _
     (c .before .before .before .before .before .p .given .1) _
-    (refused-field _ _ (sym (c .before .v2 .given .1) ∙ c .before .before .before .read-text-field .ensures)) _)
+    (refused-field _ _ (sym (c .before .v2 .given .1) ∙ c .before .before .before .read-last .ensures)) _)
     (λ c. search needs)
     (λ c.
     let c9 = c .before .before .before .before .before .before .before .before .before in
     let c15 = c9 .before .before .before .before .before .before in
-    times-read (now (c15 .args .text)) (c15 .args .at) (c15 .args .out .now) (c15 .pre .0) (c15 .pre .1) (c9 .read-fields .ensures) _
+    times-read (c15 .args .way) (now (c15 .args .bytes)) (c15 .args .at) (c15 .args .out .now) (c15 .pre .0) (c15 .pre .1) (c9 .read-fields .ensures) _
     (c .before .before .before .before .before .p .given .1) _ _
-    (got-field _ _ _ (sym (c .before .value .given .1) ∙ c .before .before .before .read-text-field .ensures))))
+    (got-field _ _ _ (sym (c .before .value .given .1) ∙ c .before .before .before .read-last .ensures))))
