@@ -5,7 +5,7 @@ pub mod Filling
 pub mod HeadRead
 pub mod RowRead
 pub mod TimesRead
-pub mod RowStored
+pub mod RowLaid
 pub mod Sizes
 pub mod Near
 pub mod Here

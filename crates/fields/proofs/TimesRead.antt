@@ -19,9 +19,9 @@ use Rattle.fields.specs.declared.Way.the-variants.{Seven, Commas}
 use Rattle.fields.specs.Stepping.{Step, stop, go, _then_, fieldAt, fieldsAt}
 use Rattle.fields.specs.TextFields.{textTimes}
 use Rattle.fields.specs.Ways.{numberBy, lastBy, timesBy}
-use Rattle.fields.specs.Promises.{asNext, ReadInto, AllBelow, Fills}
+use Rattle.fields.specs.Promises.{ReadInto, AllBelow}
 use Rattle.fields.proofs.Steps.{fields-append}
-use Rattle.fields.proofs.Taken.{stopped-not, then-read, field-read, taken-all}
+use Rattle.fields.proofs.Taken.{then-read, field-read, taken-all}
 use Rattle.fields.proofs.Into.{into-at, into-refused}
 use Rattle.fields.proofs.Below.{times-below}
 use Rattle.fields.proofs.Ways.{text-fine, in-way}
@@ -54,17 +54,17 @@ last-fine : (way : Way) (s : List ℕ) (at v n : ℕ) → lastBy way s at ≡ go
 last-fine Seven s at v n e = field-read s time at v n e .fine
 last-fine Commas s at v n e = text-fine true s time at v n e
 
--- times in two
-twice : Way → List ℕ → ℕ → ℕ → Step (List ℕ)
-twice way s k at = fieldsAt (numberBy way s) (replicate (k - 1) time) [] at then λ ns p. lastBy way s p then λ v n. go (ns ++ (v ∷ [])) n
+-- all times but the last, then the last
+parted : Way → List ℕ → ℕ → ℕ → Step (List ℕ)
+parted way s k at = fieldsAt (numberBy way s) (replicate (k - 1) time) [] at then λ ns p. lastBy way s p then λ v n. go (ns ++ (v ∷ [])) n
 
 -- so times are read in either way
-in-two : (way : Way) (s : List ℕ) (k at : ℕ) → 1 ≤ k → timesBy way s k at ≡ twice way s k at
-unfolding twice textTimes fieldsAt
-in-two Seven s k at some =
+times-parted : (way : Way) (s : List ℕ) (k at : ℕ) → 1 ≤ k → timesBy way s k at ≡ parted way s k at
+unfolding parted textTimes fieldsAt
+times-parted Seven s k at some =
     ap (λ (ws : List Wanted). fieldsAt (fieldAt s) ws [] at) (same-last k time some)
     ∙ fields-append (fieldAt s) (replicate (k - 1) time) (time ∷ []) [] at
-in-two Commas s k at some = refl
+times-parted Commas s k at some = refl
 
 -- the times of a row that were read: all but the last, then the last
 pub record Times (way : Way) (s : List ℕ) (k at : ℕ) (ts : List ℕ) (n : ℕ) : Type 0 where
@@ -78,9 +78,9 @@ pub record Times (way : Way) (s : List ℕ) (k at : ℕ) (ts : List ℕ) (n : �
 module _ (way : Way) (s : List ℕ) (k at : ℕ) (ts : List ℕ) (n : ℕ) (some : 1 ≤ k) (e : timesBy way s k at ≡ go ts n) where
   -- so it is where times were read
   pub times-parts : Times way s k at ts n
-  unfolding twice
+  unfolding parted
   times-parts =
-      let a = then-read (fieldsAt (numberBy way s) (replicate (k - 1) time) [] at) _ ts n (sym (in-two way s k at some) ∙ e) in
+      let a = then-read (fieldsAt (numberBy way s) (replicate (k - 1) time) [] at) _ ts n (sym (times-parted way s k at some) ∙ e) in
       let b = then-read (lastBy way s (a .place)) _ ts n (a .rest) in
       of (a .what) (a .place) (b .what) (b .place) (a .first) (b .first) (b .rest)
     where
@@ -103,30 +103,6 @@ module _ (way : Way) (s : List ℕ) (k at : ℕ) (ts : List ℕ) (n : ℕ) (some
 
 -- ---- as the code reads them
 
--- where reading stops the room may hold anything
-none-fill : {x : Step (List ℕ)} {v : Verdict} {left : List ℕ} → x ≡ stop v → Fills x (X.Refused v) left
-none-fill {x} e = record { next = rw e; room = λ ns n f. stopped-not x e f }
-
--- where it goes on, it holds what was read
-all-fill : {x : Step (List ℕ)} {ns left : List ℕ} {n : ℕ} → x ≡ go ns n → left ≡ ns → Fills x (X.At n) left
-all-fill {x} {ns} e f = record { next = rw e; room = λ ms m g. let q = sym e ∙ g in let same : ns ≡ ms = cc in f ∙ same }
-
--- what the code's answers say of the times
-pub fills-read : {x : Step (List ℕ)} {left : List ℕ} (n : ℕ) → Fills x (X.At n) left → x ≡ go left n
-fills-read {x} {left} n f = by x refl (f .next)
-  where
-    by : (y : Step (List ℕ)) → x ≡ y → X.At n ≡ asNext y → x ≡ go left n
-    by (stop v) q e = let z : _≡_ {A = ℕ} 0 1 = cc in absurd (omega arith)
-    by (go ns m) q e = let here : m ≡ n = cc in q ∙ rw (here, f .room ns m q)
-
--- and where they are refused
-pub fills-refused : {x : Step (List ℕ)} {left : List ℕ} (v : Verdict) → Fills x (X.Refused v) left → x ≡ stop v
-fills-refused {x} {left} v f = by x refl (f .next)
-  where
-    by : (y : Step (List ℕ)) → x ≡ y → X.Refused v ≡ asNext y → x ≡ stop v
-    by (stop w) q e = let same : w ≡ v = cc in q ∙ rw same
-    by (go ns m) q e = let z : _≡_ {A = ℕ} 0 1 = cc in absurd (omega arith)
-
 -- the ranges that the code gives are as many as the times but the last, and below the cap
 pub ranges-fit : (out : List ℕ) → 1 ≤ length out → length out ≤ 64
     → LowsHighs (length (take (length out - 1) out)) (take (length out - 1) (replicate 64 1))
@@ -146,9 +122,9 @@ module _ (way : Way) (s : List ℕ) (at : ℕ) (out : List ℕ) (some : 1 ≤ le
   own = let h : length out - 1 ≤ 64 = omega arith in rw (wanted-same 1 16777215 (length out - 1) 64 h) at into
 
   -- one before the last is refused
-  pub times-stop : (v : Verdict) → r ≡ X.Refused v → (left : List ℕ) → Fills (timesBy way s (length out) at) (X.Refused v) left
-  unfolding twice _then_
-  times-stop v e left = none-fill (in-two way s (length out) at some ∙ rw (into-refused v (rw e at own)))
+  pub times-stop : (v : Verdict) → r ≡ X.Refused v → timesBy way s (length out) at ≡ stop v
+  unfolding parted _then_
+  times-stop v e = times-parted way s (length out) at some ∙ rw (into-refused v (rw e at own))
 
   module _ (p : ℕ) (went : r ≡ X.At p) where
     -- those before the last are read
@@ -162,17 +138,16 @@ module _ (way : Way) (s : List ℕ) (at : ℕ) (out : List ℕ) (some : 1 ≤ le
     count = all-length _ part (taken-all (in-way way s) _ at part p before .fine) ∙ length-replicate (length out - 1) time
 
     -- the last is refused
-    pub last-stops : (v : Verdict) → lastBy way s p ≡ stop v → (left : List ℕ) → Fills (timesBy way s (length out) at) (X.Refused v) left
-    unfolding twice _then_
-    last-stops v e left = none-fill (in-two way s (length out) at some ∙ rw (before, e))
+    pub last-stops : (v : Verdict) → lastBy way s p ≡ stop v → timesBy way s (length out) at ≡ stop v
+    unfolding parted _then_
+    last-stops v e = times-parted way s (length out) at some ∙ rw (before, e)
 
     -- all are read
     pub times-read : (v n : ℕ) → lastBy way s p ≡ go v n
-        → Fills (timesBy way s (length out) at) (X.At n) (set (part ++ drop (length out - 1) out) (length out - 1) v)
-    unfolding twice _then_
+        → timesBy way s (length out) at ≡ go (set (part ++ drop (length out - 1) out) (length out - 1) v) n
+    unfolding parted _then_
     times-read v n e =
         let past : length out ≤ suc (length out - 1) = omega arith in
         let place : drop (length out - 1) out ≡ getD out (length out - 1) 0 ∷ []
         = drop-cons out (length out - 1) 0 (omega arith) ∙ ap (_∷_ (getD out (length out - 1) 0)) (drop-of-length-le out past) in
-        all-fill {ns = part ++ (v ∷ [])} (in-two way s (length out) at some ∙ rw (before, e))
-        (rw place (set-at part _ [] v (length out - 1) count))
+        times-parted way s (length out) at some ∙ rw (before, e, place, set-at part _ [] v (length out - 1) count)

@@ -1,5 +1,5 @@
 -- Inner: how the definitions stand behind the functions that read numbers.
-use Prim.Native.Nat.{ℕ, _-_, _<_, min}
+use Prim.Native.Nat.{ℕ, _+_, _-_, _≤_, _<_, min}
 use mathlib.Core.Path.{_≡_}
 use mathlib.Core.List.{List, [], _∷_, _++_}
 use lib.ListN.{getD}
@@ -7,6 +7,7 @@ use lib.Seq.{sets}
 use Rattle.lists.specs.Lists.{pick, over}
 use Rattle.text.specs.Numerals.{isDigit}
 use Rattle.model.specs.Task.{Task}
+use Rattle.table.specs.declared.Row.{Row}
 use Rattle.table.specs.Fields.{Wanted, rowFrom}
 use Rattle.table.specs.Memory.{rowOf}
 use Rattle.fields.specs.declared.Ended.{Ended}
@@ -47,19 +48,23 @@ pub record ReadInto (one : Wanted → ℕ → Step ℕ) (ws : List Wanted) (at :
   pub next : r ≡ asNext (fieldsAt one ws [] at)
   pub room : out′ ≡ over (readBefore one ws [] at) out
 
--- numbers read into lent room: where all were read they fill it
-pub record Fills (x : Step (List ℕ)) (r : Next) (out′ : List ℕ) : Type 0 where
-  pub next : r ≡ asNext x
-  pub room : (ns : List ℕ) (n : ℕ) → x ≡ go ns n → out′ ≡ ns
+-- numbers read into lent room, by the answer: refused, or they fill it
+abbrev pub Fills : Step (List ℕ) → Next → List ℕ → Type 0
+Fills x (X.Refused v) out′ = x ≡ stop v
+Fills x (X.At next) out′ = x ≡ go out′ next
 
-abbrev pub asRow : Step Task → Head
-asRow (stop v) = H.Refused v
-asRow (go t next) = H.Got (rowOf t) next
+-- a row that was read, its times stored behind the `used` ones that are there
+pub record RowStored (x : Step Task) (used : ℕ) (times : List ℕ) (row : Row) (next : ℕ) (times′ : List ℕ) : Type 0 where
+  pub task : Task
+  pub read : x ≡ go task next
+  pub is : row ≡ rowOf task
+  pub room : used + row .parts ≤ 1024
+  pub stored : times′ ≡ sets times used (task .times)
 
--- a row read, its times stored behind the `used` ones that are there
-pub record RowInto (x : Step Task) (used : ℕ) (times : List ℕ) (r : Head) (times′ : List ℕ) : Type 0 where
-  pub next : r ≡ asRow x
-  pub stored : (t : Task) (n : ℕ) → x ≡ go t n → times′ ≡ sets times used (t .times)
+-- a row read, by the answer: refused, or stored
+abbrev pub RowInto : Step Task → ℕ → List ℕ → Head → List ℕ → Type 0
+RowInto x used times (H.Refused v) times′ = x ≡ stop v
+RowInto x used times (H.Got row next) times′ = RowStored x used times row next times′
 
 -- ---- a field of text
 

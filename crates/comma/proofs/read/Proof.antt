@@ -16,7 +16,8 @@ use Rattle.table.proofs.Laid.{Laid, laid-stored, times-long}
 use Rattle.fields.specs.declared.Way.the-variants.{Commas}
 use Rattle.fields.specs.Stepping.{Step, stop}
 use Rattle.fields.specs.Ways.{rowIn}
-use Rattle.fields.proofs.RowStored.{StoredRow, got-row, refused-row, laid-row}
+use Rattle.fields.specs.Promises.{RowStored}
+use Rattle.fields.proofs.RowLaid.{laid-row}
 use Rattle.files.specs.Reading.{loaded}
 use Rattle.files.specs.Promises.{answerWith}
 use Rattle.comma.specs.Reading.{lineAt, linesAt, readText}
@@ -58,7 +59,7 @@ module _ {s : List ℕ} {rows : List Row} {times : List ℕ} {p used i : ℕ} (l
       stops v e = text-stops s v (l .same ∙ lines-stop (l .done) s p some (64 - i) left v (here e))
 
       -- it is read: one line more
-      turn : {row : Row} {q : ℕ} {times′ : List ℕ} → StoredRow (rowIn Commas s used p) used times row q times′
+      turn : {row : Row} {q : ℕ} {times′ : List ℕ} → RowStored (rowIn Commas s used p) used times row q times′
           → Loading s (set rows i row) times′ q (used + row .parts) (i + 1)
       turn {row} {q} r =
           let rest : 64 - i - 1 ≡ 64 - (i + 1) = omega arith in
@@ -90,9 +91,9 @@ loop-holds c =
 -- the line that is read now
 stored-row : (c : tie.After-row Inv-loop μ-loop) → let b = c .before .before .before .before .before .before .before in
     let s = b .before .before .before .args .text .now in let l = b .loop in
-    StoredRow (rowIn Commas s (l .used) (l .p)) (l .used) (l .times) (c .row .given .0 .0) (c .row .given .0 .1 .0)
+    RowStored (rowIn Commas s (l .used) (l .p)) (l .used) (l .times) (c .row .given .0 .0) (c .row .given .0 .1 .0)
     (c .before .before .before .read-row .last .1 .1 .1 .1 .0)
-stored-row c = got-row Commas _ _ _ (rw (c .row .given .1) at (c .before .before .before .read-row .ensures))
+stored-row c = rw (c .row .given .1) at (c .before .before .before .read-row .ensures)
 
 -- there is place for its row
 below-64 : (c : tie.After-row Inv-loop μ-loop) → c .before .before .before .before .before .before .before .loop .count < 64
@@ -103,7 +104,7 @@ returns-2 c =
     let read = c .before .before .before .before .before in
     let test = read .before .before in
     c .refuse2 .ensures ∙ stops (test .before .before .loop .inv) (test .before .loop-test .taken) (test .if1 .left) _
-    (refused-row (rw (c .before .before .v .given .1) at (read .read-row .ensures)))
+    (rw (c .before .before .v .given .1) at (read .read-row .ensures))
 
 loop-again : tie.Need-loop-again Inv-loop μ-loop
 loop-again c =

@@ -9,9 +9,10 @@ use lib.ListN.{length, take, drop}
 use Rattle.table.specs.Fields.{head}
 use Rattle.table.proofs.Heads.{GoodHead}
 use Rattle.fields.specs.Stepping.{fieldsAt}
-use Rattle.fields.specs.Ways.{numberBy}
-use Rattle.fields.proofs.HeadRead.{GotHead, got-head}
-use Rattle.fields.proofs.RowStored.{fields-refused, good-row, slot, times-refused, row-stored}
+use Rattle.fields.specs.Ways.{numberBy, timesBy}
+use Rattle.fields.proofs.HeadRead.{GotHead, got-head, refused-head}
+use Rattle.fields.proofs.RowRead.{row-fields-stop, row-times-stop}
+use Rattle.fields.proofs.RowLaid.{good-row, slot, row-stored}
 use Rattle.fields.proofs.read_row.Statement.{statement}
 use Rattle.fields.proofs.read_row.Tie as tie
 
@@ -43,16 +44,15 @@ read-times-requires c κs =
 returns : tie.Need-returns
 returns c =
     let a = c .before .before .before .before .before .before .args in
-    fields-refused (a .way) (now (a .bytes)) (a .used) (a .at) (now (a .times)) _ _
-    (sym (c .before .v .given .1) ∙ c .before .before .before .read-head .ensures)
+    row-fields-stop (numberBy (a .way) (now (a .bytes))) (timesBy (a .way) (now (a .bytes))) (a .used) (a .at) _
+    (refused-head _ _ (sym (c .before .v .given .1) ∙ c .before .before .before .read-head .ensures))
 
 returns-2 : tie.Need-returns-2
 returns-2 c =
     let read = c .before .before .before .before .before in
     let row = read .before .before .before .before in
-    let d = row .before .before .before .before .before in
-    let a = d .args in
-    times-refused (a .way) (now (a .bytes)) (a .used) (a .at) (now (a .times)) (d .pre .1) (got row) _
+    let a = row .before .before .before .before .before .args in
+    row-times-stop (numberBy (a .way) (now (a .bytes))) (timesBy (a .way) (now (a .bytes))) (a .used) (a .at) (got row) _
     (rw (slot-here row, c .before .v2 .given .1) at (read .read-times .ensures))
 
 returns-3 : tie.Need-returns-3

@@ -36,14 +36,14 @@ read-times-spec =
     let c5 = c .before .before .before .before .before in
     let c11 = c5 .before .before .before .before .before .before in
     times-stop (c11 .args .way) (now (c11 .args .bytes)) (c11 .args .at) (c11 .args .out .now) (c11 .pre .0) (c11 .pre .1) (c5 .read-fields .ensures) _
-    (c .before .v .given .1) _)
+    (c .before .v .given .1))
     (λ c. search needs)
     (λ c.
     let c9 = c .before .before .before .before .before .before .before .before .before in
     let c15 = c9 .before .before .before .before .before .before in
     last-stops (c15 .args .way) (now (c15 .args .bytes)) (c15 .args .at) (c15 .args .out .now) (c15 .pre .0) (c15 .pre .1) (c9 .read-fields .ensures) _
     (c .before .before .before .before .before .p .given .1) _
-    (refused-field _ _ (sym (c .before .v2 .given .1) ∙ c .before .before .before .read-last .ensures)) _)
+    (refused-field _ _ (sym (c .before .v2 .given .1) ∙ c .before .before .before .read-last .ensures)))
     (λ c. search needs)
     (λ c.
     let c9 = c .before .before .before .before .before .before .before .before .before in

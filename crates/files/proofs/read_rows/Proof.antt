@@ -18,7 +18,8 @@ use Rattle.fields.specs.declared.Next.the-variants.{At}
 use Rattle.fields.specs.declared.Way.the-variants.{Seven}
 use Rattle.fields.specs.Stepping.{Step, stop, go}
 use Rattle.fields.specs.Ways.{rowIn}
-use Rattle.fields.proofs.RowStored.{StoredRow, got-row, refused-row, laid-row}
+use Rattle.fields.specs.Promises.{RowStored}
+use Rattle.fields.proofs.RowLaid.{laid-row}
 use Rattle.files.specs.Reading.{rowAt, rowsAt}
 use Rattle.files.specs.Promises.{asBody}
 use Rattle.files.proofs.Steps.{rows-more, rows-stop}
@@ -56,7 +57,7 @@ module _ {s : List ℕ} {at n : ℕ} {rows : List Row} {times : List ℕ} {p use
     stops v e = sym (ap asBody (l .same ∙ rows-stop (n - i) (l .done) s p (omega arith) v (here e)))
 
     -- it is read: one row more
-    turn : n ≤ 64 → {row : Row} {q : ℕ} {times′ : List ℕ} → StoredRow (rowIn Seven s used p) used times row q times′
+    turn : n ≤ 64 → {row : Row} {q : ℕ} {times′ : List ℕ} → RowStored (rowIn Seven s used p) used times row q times′
         → Loading s at n (set rows i row) times′ q (used + row .parts) (i + 1)
     turn few {row} {q} r =
         let left : n - i - 1 ≡ n - (i + 1) = omega arith in
@@ -88,9 +89,9 @@ loop-holds c =
 -- the row that is read now
 stored-row : (c : tie.After-row Inv-loop μ-loop) → let b = c .before .before .before .before .before .before in
     let s = b .before .before .before .args .bytes .now in let l = b .loop in
-    StoredRow (rowIn Seven s (l .used) (l .p)) (l .used) (l .times) (c .row .given .0 .0) (c .row .given .0 .1 .0)
+    RowStored (rowIn Seven s (l .used) (l .p)) (l .used) (l .times) (c .row .given .0 .0) (c .row .given .0 .1 .0)
     (c .before .before .before .read-row .last .1 .1 .1 .1 .0)
-stored-row c = got-row Seven _ _ _ (rw (c .row .given .1) at (c .before .before .before .read-row .ensures))
+stored-row c = rw (c .row .given .1) at (c .before .before .before .read-row .ensures)
 
 -- there is place for it
 below-64 : (c : tie.After-row Inv-loop μ-loop) → c .before .before .before .before .before .before .loop .i < 64
@@ -101,7 +102,7 @@ returns c =
     let read = c .before .before .before .before .before in
     let test = read .before .before in
     c .no-rows .ensures ∙ stops (test .before .loop .inv) (test .loop-test .taken) _
-    (refused-row (rw (c .before .before .v .given .1) at (read .read-row .ensures)))
+    (rw (c .before .before .v .given .1) at (read .read-row .ensures))
 
 loop-again : tie.Need-loop-again Inv-loop μ-loop
 loop-again c =
