@@ -6,12 +6,11 @@ use mathlib.Core.List.{List, [], _∷_, _++_}
 use lib.ListN.{length, getD, drop, set, length-append, drop-of-length-le}
 use Rattle.lists.specs.Lists.{over}
 use Rattle.lists.proofs.Overs.{over-none, over-length, over-one}
+use Rattle.lists.proofs.OverParts.{over-full}
 use Rattle.table.specs.declared.Verdict.{Verdict}
 use Rattle.table.specs.Fields.{Wanted, field, wanted, LowsHighs}
 use Rattle.table.proofs.FieldRanges.{wanted-more, wanted-count}
-use Rattle.fields.specs.declared.Next.the-variants.{At, Refused}
 use Rattle.fields.specs.Stepping.{Step, stop, go, _then_, fieldsAt}
-use Rattle.fields.specs.Promises.{stepped, readBefore, ReadInto}
 
 -- each is read as `one` says; i of them are done, and the next is wanted at p
 pub record Filling (one : Wanted → ℕ → Step ℕ) (at : ℕ) (low high out₀ out : List ℕ) (p i : ℕ) : Type 0 where
@@ -21,13 +20,12 @@ pub record Filling (one : Wanted → ℕ → Step ℕ) (at : ℕ) (low high out�
   pub upto : i ≤ length out₀
   pub put : out ≡ over done out₀
   pub same : fieldsAt one (wanted low high) [] at ≡ fieldsAt one (drop i (wanted low high)) done p
-  pub before : readBefore one (wanted low high) [] at ≡ readBefore one (drop i (wanted low high)) done p
 
 -- at first none is
 pub starts : (one : Wanted → ℕ → Step ℕ) (at : ℕ) (low high out : List ℕ) → LowsHighs (length out) low high
     → Filling one at low high out out at 0
 starts one at low high out r =
-    record { ranges = r; done = []; count = refl; upto = omega arith; put = sym (over-none _); same = refl; before = refl }
+    record { ranges = r; done = []; count = refl; upto = omega arith; put = sym (over-none _); same = refl }
 
 module _ {one : Wanted → ℕ → Step ℕ} {at : ℕ} {low high out₀ out : List ℕ} {p i : ℕ} (f : Filling one at low high out₀ out p i) where
   -- the length stays
@@ -48,21 +46,17 @@ module _ {one : Wanted → ℕ → Step ℕ} {at : ℕ} {low high out₀ out : L
       upto = omega (arith, long);
       put = rw (f .put, f .count) (over-one (f .done) out₀ v (omega (arith, f .count, long)));
       same = f .same ∙ (unfold fieldsAt _then_ in rw (next, e));
-      before = f .before ∙ (unfold readBefore stepped in rw (next, e));
     }
 
     -- a number is refused
-    pub halts : (v : Verdict) → one (field (getD low i 0) (getD high i 0)) p ≡ stop v
-        → ReadInto one (wanted low high) at out₀ (Refused v) out
-    halts v e = record {
-      next = unfold fieldsAt _then_ in rw (f .same, next, e);
-      room = f .put ∙ (unfold readBefore stepped in rw (f .before, next, e));
-    }
+    pub halts : (v : Verdict) → one (field (getD low i 0) (getD high i 0)) p ≡ stop v → fieldsAt one (wanted low high) [] at ≡ stop v
+    unfolding fieldsAt _then_
+    halts v e = rw (f .same, next, e)
 
   -- the room is full
-  pub ends : length out ≤ i → ReadInto one (wanted low high) at out₀ (At p) out
-  unfolding fieldsAt readBefore
+  pub ends : length out ≤ i → fieldsAt one (wanted low high) [] at ≡ go out p
+  unfolding fieldsAt
   ends h =
       let all : length (wanted low high) ≤ i = rw (wanted-count (f .ranges)) (omega (arith, long)) in
-      let none : drop i (wanted low high) ≡ [] = drop-of-length-le (wanted low high) all in
-      record { next = rw (f .same, none); room = f .put ∙ rw (f .before, none) }
+      let full : out ≡ f .done = f .put ∙ over-full (f .done) out₀ (omega (arith, f .count, long)) in
+      f .same ∙ rw (drop-of-length-le (wanted low high) all, full)

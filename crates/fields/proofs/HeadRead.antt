@@ -1,7 +1,7 @@
 -- A row's fields before its times: the six plain ones, then the part count; and what the code's answers say of them. Assumes nothing.
 use Prim.Native.Nat.{ℕ}
 use native.Mathlib.Omega.{arith}
-use mathlib.Core.Path.{_≡_, sym, ap, _∙_}
+use mathlib.Core.Path.{_≡_, ap, _∙_}
 use mathlib.Core.List.{List, [], _∷_, _++_}
 use lib.ListN.{length, set}
 use lib.Seq.{set-at}
@@ -11,13 +11,10 @@ use Rattle.table.specs.Fields.{Wanted, head, partCount, wanted, rowFrom}
 use Rattle.table.proofs.Heads.{lows, highs, head-split}
 use Rattle.table.proofs.Seven.{all-length}
 use Rattle.fields.specs.declared.Head.the-variants as H
-use Rattle.fields.specs.declared.Next.{Next}
-use Rattle.fields.specs.declared.Next.the-variants as X
 use Rattle.fields.specs.Stepping.{Step, stop, go, _then_, fieldsAt}
-use Rattle.fields.specs.Promises.{asHead, ReadInto}
+use Rattle.fields.specs.Promises.{asHead}
 use Rattle.fields.proofs.Steps.{fields-append}
 use Rattle.fields.proofs.Taken.{Reader, taken-all}
-use Rattle.fields.proofs.Into.{into-at, into-refused}
 
 -- a row's fields that were got, as numbers and as a row
 pub record GotHead (x : Step (List ℕ)) (row : Row) (n : ℕ) : Type 0 where
@@ -45,30 +42,25 @@ module _ {s : List ℕ} {plain : Type 0} {form : ℕ → List ℕ} {one : Wanted
       ap (λ (ws : List Wanted). fieldsAt one ws [] at) (head-split used)
       ∙ fields-append one (wanted lows highs) (partCount used ∷ []) [] at
 
-  module _ {room part : List ℕ} (six : length room ≡ 6) {r : Next} (into : ReadInto one (wanted lows highs) at room r part) where
-    -- a plain field is refused
-    pub plain-stops : (v : Verdict) → r ≡ X.Refused v → H.Refused v ≡ asHead (fieldsAt one (head used) [] at)
+  -- a plain field is refused
+  pub plain-stops : (v : Verdict) → fieldsAt one (wanted lows highs) [] at ≡ stop v → H.Refused v ≡ asHead (fieldsAt one (head used) [] at)
+  unfolding _then_
+  plain-stops v e = rw (in-two, e)
+
+  -- the plain fields are read
+  module _ {part : List ℕ} {m : ℕ} (read : fieldsAt one (wanted lows highs) [] at ≡ go part m) where
+    -- there are six
+    count : length part ≡ 6
+    unfolding wanted lows highs
+    count = all-length (wanted lows highs) part (taken-all reader (wanted lows highs) at part m read .fine)
+
+    -- the part count is refused
+    pub count-stops : (v : Verdict) → one (partCount used) m ≡ stop v → H.Refused v ≡ asHead (fieldsAt one (head used) [] at)
     unfolding _then_
-    plain-stops v e = rw (in-two, into-refused v (rw e at into))
+    count-stops v e = rw (in-two, read, e)
 
-    module _ (m : ℕ) (went : r ≡ X.At m) where
-      -- the plain fields that were read
-      plain-read : fieldsAt one (wanted lows highs) [] at ≡ go part m
-      unfolding wanted lows highs
-      plain-read = into-at reader m (sym six) (rw went at into)
-
-      -- there are six
-      count : length part ≡ 6
-      unfolding wanted lows highs
-      count = all-length (wanted lows highs) part (taken-all reader (wanted lows highs) at part m plain-read .fine)
-
-      -- the part count is refused
-      pub count-stops : (v : Verdict) → one (partCount used) m ≡ stop v → H.Refused v ≡ asHead (fieldsAt one (head used) [] at)
-      unfolding _then_
-      count-stops v e = rw (in-two, plain-read, e)
-
-      -- all seven are read
-      pub seven-read : (v n : ℕ) → one (partCount used) m ≡ go v n
-          → H.Got (rowFrom (set (part ++ (0 ∷ [])) 6 v)) n ≡ asHead (fieldsAt one (head used) [] at)
-      unfolding _then_
-      seven-read v n e = rw (in-two, plain-read, e, set-at part 0 [] v 6 count)
+    -- all seven are read
+    pub seven-read : (v n : ℕ) → one (partCount used) m ≡ go v n
+        → H.Got (rowFrom (set (part ++ (0 ∷ [])) 6 v)) n ≡ asHead (fieldsAt one (head used) [] at)
+    unfolding _then_
+    seven-read v n e = rw (in-two, read, e, set-at part 0 [] v 6 count)

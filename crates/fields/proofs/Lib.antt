@@ -1,6 +1,5 @@
 pub mod Steps
 pub mod Taken
-pub mod Into
 pub mod Filling
 pub mod HeadRead
 pub mod RowRead

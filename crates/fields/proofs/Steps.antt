@@ -9,7 +9,7 @@ use Rattle.table.specs.Fields.{Wanted}
 use Rattle.table.proofs.Codes.{is-good, is-fault}
 use Rattle.fields.specs.declared.Field.the-variants as F
 use Rattle.fields.specs.Stepping.{Step, stop, go, _then_, unless, fieldsAt}
-use Rattle.fields.specs.Promises.{asField, stepped, readBefore}
+use Rattle.fields.specs.Promises.{asField}
 
 -- where the verdict's code k was asked for: stop, or go on
 module _ {A : Type 0} {v x : Verdict} {k : ℕ} (same : v ≡ x) (code : k ≡ codeOf v) (a : A) (n : ℕ) where
@@ -50,16 +50,3 @@ module _ (one : Wanted → ℕ → Step ℕ) where
           ≡ ((x then λ value at. fieldsAt one ws (done ++ (value ∷ [])) at) then λ numbers at. fieldsAt one vs numbers at)
       by (stop v) h = refl
       by (go v n) h = h v n
-
-  -- where all were read, they are what stands then
-  pub before-all : (ws : List Wanted) (done : List ℕ) (at : ℕ) (all : List ℕ) (n : ℕ) → fieldsAt one ws done at ≡ go all n
-      → readBefore one ws done at ≡ all
-  unfolding fieldsAt readBefore _then_ stepped
-  before-all [] done at all n e = cc
-  before-all (w ∷ ws) done at all n e = by (one w at) e (λ v m. before-all ws (done ++ (v ∷ [])) m all n)
-    where
-      by : (x : Step ℕ) → (x then λ value at. fieldsAt one ws (done ++ (value ∷ [])) at) ≡ go all n
-          → ((v m : ℕ) → fieldsAt one ws (done ++ (v ∷ [])) m ≡ go all n → readBefore one ws (done ++ (v ∷ [])) m ≡ all)
-          → stepped done (λ value at. readBefore one ws (done ++ (value ∷ [])) at) x ≡ all
-      by (stop v) f h = let z : _≡_ {A = ℕ} 0 1 = cc in absurd (omega arith)
-      by (go v m) f h = h v m f

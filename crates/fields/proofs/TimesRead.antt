@@ -12,17 +12,14 @@ use Rattle.table.specs.Fields.{Wanted, time, wanted, LowsHighs}
 use Rattle.table.proofs.FieldRanges.{wanted-same}
 use Rattle.table.proofs.Fine.{Fine, AllFine}
 use Rattle.table.proofs.Seven.{all-length}
-use Rattle.fields.specs.declared.Next.{Next}
-use Rattle.fields.specs.declared.Next.the-variants as X
 use Rattle.fields.specs.declared.Way.{Way}
 use Rattle.fields.specs.declared.Way.the-variants.{Seven, Commas}
 use Rattle.fields.specs.Stepping.{Step, stop, go, _then_, fieldAt, fieldsAt}
 use Rattle.fields.specs.TextFields.{textTimes}
 use Rattle.fields.specs.Ways.{numberBy, lastBy, timesBy}
-use Rattle.fields.specs.Promises.{ReadInto, AllBelow}
+use Rattle.fields.specs.Promises.{AllBelow}
 use Rattle.fields.proofs.Steps.{fields-append}
 use Rattle.fields.proofs.Taken.{then-read, field-read, taken-all}
-use Rattle.fields.proofs.Into.{into-at, into-refused}
 use Rattle.fields.proofs.Below.{times-below}
 use Rattle.fields.proofs.Ways.{text-fine, in-way}
 
@@ -113,34 +110,30 @@ ranges-fit out some few =
     rw lent (times-below (length out - 1) (omega arith))
 
 -- the room has a place for each; the code lends all but the last
-module _ (way : Way) (s : List ℕ) (at : ℕ) (out : List ℕ) (some : 1 ≤ length out) (few : length out ≤ 64) {part : List ℕ} {r : Next}
-    (into : ReadInto (numberBy way s)
-    (wanted (take (length out - 1) (replicate 64 1)) (take (length out - 1) (replicate 64 16777215))) at
-    (take (length out - 1) out) r part) where
+module _ (way : Way) (s : List ℕ) (at : ℕ) (out : List ℕ) (some : 1 ≤ length out) (few : length out ≤ 64) where
+  -- those before the last, as the code gives their ranges
+  abbrev front : Step (List ℕ)
+  front = fieldsAt (numberBy way s) (wanted (take (length out - 1) (replicate 64 1)) (take (length out - 1) (replicate 64 16777215))) [] at
+
   -- the same range for each
-  own : ReadInto (numberBy way s) (replicate (length out - 1) time) at (take (length out - 1) out) r part
-  own = let h : length out - 1 ≤ 64 = omega arith in rw (wanted-same 1 16777215 (length out - 1) 64 h) at into
+  same-range : front ≡ fieldsAt (numberBy way s) (replicate (length out - 1) time) [] at
+  same-range = let h : length out - 1 ≤ 64 = omega arith in rw (wanted-same 1 16777215 (length out - 1) 64 h)
 
-  -- one before the last is refused
-  pub times-stop : (v : Verdict) → r ≡ X.Refused v → timesBy way s (length out) at ≡ stop v
+  -- one of them is refused
+  pub times-stop : (v : Verdict) → front ≡ stop v → timesBy way s (length out) at ≡ stop v
   unfolding parted _then_
-  times-stop v e = times-parted way s (length out) at some ∙ rw (into-refused v (rw e at own))
+  times-stop v e = times-parted way s (length out) at some ∙ rw (sym same-range ∙ e)
 
-  module _ (p : ℕ) (went : r ≡ X.At p) where
-    -- those before the last are read
-    before : fieldsAt (numberBy way s) (replicate (length out - 1) time) [] at ≡ go part p
-    before =
-        let lent : length (take (length out - 1) out) ≡ length out - 1 = length-take-le (length out - 1) out (omega arith) in
-        into-at (in-way way s) p (length-replicate (length out - 1) time ∙ sym lent) (rw went at own)
-
+  -- they are read
+  module _ {part : List ℕ} {p : ℕ} (read : front ≡ go part p) where
     -- there are so many
     count : length part ≡ length out - 1
-    count = all-length _ part (taken-all (in-way way s) _ at part p before .fine) ∙ length-replicate (length out - 1) time
+    count = all-length _ part (taken-all (in-way way s) _ at part p (sym same-range ∙ read) .fine) ∙ length-replicate (length out - 1) time
 
     -- the last is refused
     pub last-stops : (v : Verdict) → lastBy way s p ≡ stop v → timesBy way s (length out) at ≡ stop v
     unfolding parted _then_
-    last-stops v e = times-parted way s (length out) at some ∙ rw (before, e)
+    last-stops v e = times-parted way s (length out) at some ∙ rw (sym same-range ∙ read, e)
 
     -- all are read
     pub times-read : (v n : ℕ) → lastBy way s p ≡ go v n
@@ -150,4 +143,4 @@ module _ (way : Way) (s : List ℕ) (at : ℕ) (out : List ℕ) (some : 1 ≤ le
         let past : length out ≤ suc (length out - 1) = omega arith in
         let place : drop (length out - 1) out ≡ getD out (length out - 1) 0 ∷ []
         = drop-cons out (length out - 1) 0 (omega arith) ∙ ap (_∷_ (getD out (length out - 1) 0)) (drop-of-length-le out past) in
-        times-parted way s (length out) at some ∙ rw (before, e, place, set-at part _ [] v (length out - 1) count)
+        times-parted way s (length out) at some ∙ rw (sym same-range ∙ read, e, place, set-at part _ [] v (length out - 1) count)

@@ -1,14 +1,14 @@
 -- Inner: how the definitions stand behind the functions that read numbers.
 use Prim.Native.Nat.{ℕ, _+_, _-_, _≤_, _<_, min}
 use mathlib.Core.Path.{_≡_}
-use mathlib.Core.List.{List, [], _∷_, _++_}
+use mathlib.Core.List.{List}
 use lib.ListN.{getD}
 use lib.Seq.{sets}
-use Rattle.lists.specs.Lists.{pick, over}
+use Rattle.lists.specs.Lists.{pick}
 use Rattle.text.specs.Numerals.{isDigit}
 use Rattle.model.specs.Task.{Task}
 use Rattle.table.specs.declared.Row.{Row}
-use Rattle.table.specs.Fields.{Wanted, rowFrom}
+use Rattle.table.specs.Fields.{rowFrom}
 use Rattle.table.specs.Memory.{rowOf}
 use Rattle.fields.specs.declared.Ended.{Ended}
 use Rattle.fields.specs.declared.Ended.the-variants as E
@@ -19,34 +19,15 @@ use Rattle.fields.specs.declared.Head.{Head}
 use Rattle.fields.specs.declared.Head.the-variants as H
 use Rattle.fields.specs.declared.Next.{Next}
 use Rattle.fields.specs.declared.Next.the-variants as X
-use Rattle.fields.specs.Stepping.{Step, stop, go, fieldsAt}
+use Rattle.fields.specs.Stepping.{Step, stop, go}
 
 abbrev pub asField : Step ℕ → Field
 asField (stop v) = F.Refused v
 asField (go value next) = F.Got value next
 
-abbrev pub asNext : Step (List ℕ) → Next
-asNext (stop v) = X.Refused v
-asNext (go numbers next) = X.At next
-
 abbrev pub asHead : Step (List ℕ) → Head
 asHead (stop v) = H.Refused v
 asHead (go fields next) = H.Got (rowFrom fields) next
-
--- what stands after a step: what stood before it where it stops
-unfoldable pub stepped : {A B : Type 0} → B → (A → ℕ → B) → Step A → B
-stepped before f (stop v) = before
-stepped before f (go a next) = f a next
-
--- the numbers that are read before reading stops, behind those that are done
-unfoldable pub readBefore : (Wanted → ℕ → Step ℕ) → List Wanted → List ℕ → ℕ → List ℕ
-readBefore one [] done at = done
-readBefore one (w ∷ ws) done at = stepped done (λ value at. readBefore one ws (done ++ (value ∷ [])) at) (one w at)
-
--- numbers read into lent room, each stored as it is read, and where reading goes on or why it does not
-pub record ReadInto (one : Wanted → ℕ → Step ℕ) (ws : List Wanted) (at : ℕ) (out : List ℕ) (r : Next) (out′ : List ℕ) : Type 0 where
-  pub next : r ≡ asNext (fieldsAt one ws [] at)
-  pub room : out′ ≡ over (readBefore one ws [] at) out
 
 -- numbers read into lent room, by the answer: refused, or they fill it
 abbrev pub Fills : Step (List ℕ) → Next → List ℕ → Type 0

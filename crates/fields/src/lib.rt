@@ -7,7 +7,7 @@ ghost use Rattle.table.specs.Fields.{head, want, wanted, LowsHighs};
 ghost use Rattle.fields.specs.Stepping.{fieldAt, fieldsAt};
 ghost use Rattle.fields.specs.TextFields.{decimalAt, valueAt, endingAt, fits, textField};
 ghost use Rattle.fields.specs.Ways.{numberBy, lastBy, timesBy, rowIn};
-ghost use Rattle.fields.specs.Promises.{asField, asHead, ReadInto, Fills, RowInto, digitOr, held, AllBelow, asEnded};
+ghost use Rattle.fields.specs.Promises.{asField, asHead, Fills, RowInto, digitOr, held, AllBelow, asEnded};
 use numbers::Number;
 use table::Row;
 use table::Verdict;
@@ -228,8 +228,8 @@ fn read_fields(
     out: &mut [u32],
 ) -> Next
     requires { ⌜ LowsHighs (length (now out)) (now low) (now high) × AllBelow (now high) 16777216 ⌝ }
-    ensures { λ r. ⌜ ReadInto (numberBy way (now (bytes .entry))) (wanted (now (low .entry)) (now (high .entry))) at
-        (now (out .entry)) r (now (out .exit)) ⌝ }
+    ensures { λ r. ⌜ Fills (fieldsAt (numberBy way (now (bytes .entry))) (wanted (now (low .entry)) (now (high .entry))) [] at)
+        r (now (out .exit)) ⌝ }
 {
     let mut p = at;
     let mut i = 0;

@@ -1,7 +1,7 @@
 -- `fields::read_head` meets its contract: the fields of which the constants are the ranges, then the part count. Assumes nothing.
 use denote.Ref.{now}
 use borrow.Author.Needs.{needs}
-use mathlib.Core.Path.{refl, sym, ap, _∙_}
+use mathlib.Core.Path.{sym, ap, _∙_}
 use Rattle.table.specs.declared.Row.{Row}
 use Rattle.table.proofs.Heads.{lows, highs}
 use Rattle.fields.specs.declared.Head.the-variants as H
@@ -22,7 +22,7 @@ unfolding lows highs
 returns c =
     let a = c .before .before .before .before .before .before .before .before .before .args in
     let read = c .before .before .before .before .read-fields in
-    plain-stops (in-way (a .way) (now (a .bytes))) (a .used) (a .at) refl (read .ensures) _ (c .before .v .given .1)
+    plain-stops (in-way (a .way) (now (a .bytes))) (a .used) (a .at) _ (rw (c .before .v .given .1) at (read .ensures))
 
 returns-2 : tie.Need-returns-2
 unfolding lows highs
@@ -30,7 +30,7 @@ returns-2 c =
     let c5 = c .before .before .before .before .before in
     let a = c5 .before .before .before .before .before .before .before .before .args in
     let read = c5 .before .before .before .read-fields in
-    count-stops (in-way (a .way) (now (a .bytes))) (a .used) (a .at) refl (read .ensures) _ (c5 .p .given .1) _
+    count-stops (in-way (a .way) (now (a .bytes))) (a .used) (a .at) (rw (c5 .p .given .1) at (read .ensures)) _
     (refused-field _ _ (sym (c .before .v2 .given .1) ∙ c .before .before .before .read-number .ensures))
 
 returns-3 : tie.Need-returns-3
@@ -40,7 +40,7 @@ returns-3 c =
     let a = c6 .before .before .before .before .before .before .before .before .args in
     let read = c6 .before .before .before .read-fields in
     ap (λ (row : Row). H.Got row (c .before .before .value .given .0 .1 .0)) (c .row-of .ensures)
-    ∙ seven-read (in-way (a .way) (now (a .bytes))) (a .used) (a .at) refl (read .ensures) _ (c6 .p .given .1) _ _
+    ∙ seven-read (in-way (a .way) (now (a .bytes))) (a .used) (a .at) (rw (c6 .p .given .1) at (read .ensures)) _ _
     (got-field _ _ _ (sym (c .before .before .value .given .1) ∙ c .before .before .before .before .read-number .ensures))
 
 pub read-head-spec : {M : Type 1} → statement M

@@ -35,19 +35,19 @@ read-times-spec =
     (λ c.
     let c5 = c .before .before .before .before .before in
     let c11 = c5 .before .before .before .before .before .before in
-    times-stop (c11 .args .way) (now (c11 .args .bytes)) (c11 .args .at) (c11 .args .out .now) (c11 .pre .0) (c11 .pre .1) (c5 .read-fields .ensures) _
-    (c .before .v .given .1))
+    times-stop (c11 .args .way) (now (c11 .args .bytes)) (c11 .args .at) (c11 .args .out .now) (c11 .pre .0) (c11 .pre .1) _
+    (rw (c .before .v .given .1) at (c5 .read-fields .ensures)))
     (λ c. search needs)
     (λ c.
     let c9 = c .before .before .before .before .before .before .before .before .before in
     let c15 = c9 .before .before .before .before .before .before in
-    last-stops (c15 .args .way) (now (c15 .args .bytes)) (c15 .args .at) (c15 .args .out .now) (c15 .pre .0) (c15 .pre .1) (c9 .read-fields .ensures) _
-    (c .before .before .before .before .before .p .given .1) _
+    last-stops (c15 .args .way) (now (c15 .args .bytes)) (c15 .args .at) (c15 .args .out .now) (c15 .pre .0) (c15 .pre .1)
+    (rw (c .before .before .before .before .before .p .given .1) at (c9 .read-fields .ensures)) _
     (refused-field _ _ (sym (c .before .v2 .given .1) ∙ c .before .before .before .read-last .ensures)))
     (λ c. search needs)
     (λ c.
     let c9 = c .before .before .before .before .before .before .before .before .before in
     let c15 = c9 .before .before .before .before .before .before in
-    times-read (c15 .args .way) (now (c15 .args .bytes)) (c15 .args .at) (c15 .args .out .now) (c15 .pre .0) (c15 .pre .1) (c9 .read-fields .ensures) _
-    (c .before .before .before .before .before .p .given .1) _ _
+    times-read (c15 .args .way) (now (c15 .args .bytes)) (c15 .args .at) (c15 .args .out .now) (c15 .pre .0) (c15 .pre .1)
+    (rw (c .before .before .before .before .before .p .given .1) at (c9 .read-fields .ensures)) _ _
     (got-field _ _ _ (sym (c .before .value .given .1) ∙ c .before .before .before .read-last .ensures))))
