@@ -1,11 +1,11 @@
--- A test that no element passes. Assumes nothing.
+-- A test that no element passes, and a test of one element more. Assumes nothing.
 use Prim.Native.Nat.{ℕ, zero, suc}
-use mathlib.Core.Path.{_≡_, refl}
-use mathlib.Core.Bool.{Bool, false}
+use mathlib.Core.Path.{_≡_, refl, sym}
+use mathlib.Core.Bool.{Bool, true, false}
 use mathlib.Core.List.{List, [], _∷_, _++_}
 use lib.ListN.{drop}
-use Rattle.lists.specs.Lists.{any}
-use Rattle.lists.proofs.Tests.{by-test, never}
+use Rattle.lists.specs.Lists.{pick, any}
+use Rattle.lists.proofs.Tests.{by-test, never, pick-same}
 
 module _ {A : Type 0} (p : A → Bool) where
   -- neither the first nor any of the others
@@ -24,3 +24,9 @@ module _ {A : Type 0} (p : A → Bool) where
   none-drop zero xs e = e
   none-drop (suc n) [] e = e
   none-drop (suc n) (x ∷ xs) e = none-drop n xs (none-cons x xs e .1)
+
+  -- one more behind them
+  pub any-snoc : (xs : List A) (x : A) → any p (xs ++ (x ∷ [])) ≡ pick (p x) true (any p xs)
+  unfolding any
+  any-snoc [] x = refl
+  any-snoc (y ∷ ys) x = by-test (p y) (λ t. rw t (sym (pick-same (p x) true))) (λ f. rw f (any-snoc ys x))
