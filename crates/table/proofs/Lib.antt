@@ -1,4 +1,5 @@
 pub mod Clashes
+pub mod Seen
 pub mod Codes
 pub mod FieldRanges
 pub mod Fine

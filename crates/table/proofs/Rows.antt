@@ -2,11 +2,13 @@
 use Prim.Native.Nat.{ℕ, _+_, min, _≤_, _<_}
 use native.Mathlib.Numerals.{add-one}
 use native.Mathlib.Omega.{arith}
-use mathlib.Core.Path.{_≡_, sym, ap, _∙_}
+use mathlib.Core.Path.{_≡_, sym, _∙_}
 use mathlib.Core.List.{List, _∷_, map}
-use lib.Seq.{getD-take, drop-cons, drop-drop, length-take-le}
+use mathlib.Core.Logic.{⊎-elim}
+use lib.Seq.{getD-take, drop-cons, drop-drop, take-all}
 use Rattle.table.specs.declared.Row.{Row}
 use lib.ListN.{length, getD, take, drop, length-map, length-take}
+use Rattle.lists.proofs.Tests.{either}
 use Rattle.table.specs.Verdicts.{_orElse_}
 use Rattle.table.specs.Memory.{zeroRow}
 use Rattle.table.specs.Faults.{rowFault, rowsFault}
@@ -15,25 +17,19 @@ use Rattle.table.specs.Faults.{rowFault, rowsFault}
 pub length-mapped : (X Y : Type 0) (f : X → Y) (l : List X) (n : ℕ) → length (map f l) ≡ n → length l ≡ n
 length-mapped X Y f l n p = sym (length-map l f) ∙ p
 
--- a table uses at most 64 rows, whatever its count says
-pub used-length : (count : ℕ) (rows : List Row) → length rows ≡ 64 → length (take count rows) ≡ min count 64
-used-length count rows long = length-take count rows ∙ ap (min count) long
-
--- a used row is the row that stands there
-pub used-row : (count : ℕ) (rows : List Row) (i : ℕ) → i < count → getD (take count rows) i zeroRow ≡ getD rows i zeroRow
-used-row count rows i h = getD-take count rows i zeroRow h
+-- a table uses its first n rows, where n is the count up to 64
+pub used-first : (count : ℕ) (rows : List Row) {n : ℕ} → length rows ≡ 64 → n ≡ min count 64 → take n rows ≡ take count rows
+used-first count rows {n} long e =
+    ⊎-elim (λ h. (let q : n ≡ count = omega arith in rw q))
+    (λ h. take-all n rows (omega arith) ∙ sym (take-all count rows (omega arith)))
+    (either count 64)
 
 -- the used rows from row i on: row i and the others
 pub used-next : (count : ℕ) (rows : List Row) (i : ℕ) → i < length (take count rows)
     → drop i (take count rows) ≡ getD rows i zeroRow ∷ drop (i + 1) (take count rows)
 used-next count rows i h =
     let inside : i < count = omega (arith, length-take count rows) in
-    drop-cons (take count rows) i zeroRow h ∙ rw (used-row count rows i inside, add-one)
-
--- so where there are as many rows as the count says
-pub used-more : (count : ℕ) (rows : List Row) (i : ℕ) → i < count → count ≤ length rows
-    → drop i (take count rows) ≡ getD rows i zeroRow ∷ drop (i + 1) (take count rows)
-used-more count rows i h long = used-next count rows i (rw (length-take-le count rows long) h)
+    drop-cons (take count rows) i zeroRow h ∙ rw (getD-take count rows i zeroRow inside, add-one)
 
 -- the faults from row i on: those of row i, then those of the others
 pub faults-more : (rows : List Row) (r : Row) (times : List ℕ) (i used : ℕ) → drop i rows ≡ r ∷ drop (i + 1) rows

@@ -4,3 +4,4 @@ pub mod Memory
 pub mod Clash
 pub mod Faults
 pub mod Written
+pub mod Promises

@@ -2,11 +2,12 @@
 ghost use mathlib.Core.Path.{_≡_};
 ghost use mathlib.Core.List.{[]};
 ghost use Prim.Native.Nat.{_≤_, min};
-ghost use lib.ListN.{length, drop, replicate};
+ghost use lib.ListN.{length, take, drop, replicate};
 ghost use Rattle.table.specs.Verdicts.{codeOf, numberOf};
 ghost use Rattle.table.specs.Fields.{head, time, want, wanted, LowsHighs, judge, faultIn, fieldsOf, rowFrom};
 ghost use Rattle.table.specs.Memory.{stored, usedRows};
-ghost use Rattle.table.specs.Clash.{breaks, coopAbove, clash, broken, ruleVerdict, clashOf};
+ghost use Rattle.table.specs.Clash.{breaks, coopAbove, clash, clashOf};
+ghost use Rattle.table.specs.Promises.{FirstsOf, Decides, Placed, slotOf, crossesMarks, marksWith, firstCrossed};
 ghost use Rattle.table.specs.Written.{noneWritten};
 ghost use Rattle.table.specs.Faults.{rowFault, rowsFault, faultOf};
 
@@ -57,6 +58,18 @@ pub enum Rule {
     SameId,
     SamePriority,
     KindsCrossed,
+}
+
+// The first row that has 5; if none has, the first that has 6. Where no row has it, the number of rows.
+struct Firsts {
+    twice: usize,
+    crossed: usize,
+}
+
+// What is kept of a core's rows: the lowest preemptive and the highest cooperative priority.
+struct Marks {
+    lowest: u32,
+    highest: u32,
 }
 
 // The code that the documents give for a verdict.
@@ -207,8 +220,9 @@ fn rows_used(count: usize) -> usize
 fn coop_above(a: Row, b: Row) -> bool
     ensures { λ r. ⌜ r ≡ coopAbove a b ⌝ }
 {
-    if a.kind == 1 {
-        if b.kind == 0 {
+    // in this order the compiler keeps the rule's test out of the loop that compares rows
+    if b.kind == 0 {
+        if a.kind == 1 {
             return b.priority < a.priority;
         }
     }
@@ -234,17 +248,17 @@ fn breaks_rule(rule: Rule, row: Row, earlier: Row) -> bool
     }
 }
 
-// The first row that breaks a rule with an earlier one, or the number of rows where there is none.
-fn first_clash(t: Table, rule: Rule) -> usize
-    ensures { λ r. ⌜ r ≡ clash (breaks rule) (usedRows t) ⌝ }
+// The first of n rows that breaks a rule with an earlier one, or n where there is none.
+fn first_clash(rows: [Row; 64], n: usize, rule: Rule) -> usize
+    requires { ⌜ n ≤ 64 ⌝ }
+    ensures { λ r. ⌜ r ≡ clash (breaks rule) (take n rows) ⌝ }
 {
-    let n = rows_used(t.count);
     let mut i = 0;
     'rows: while i < n {
-        let row = t.rows[i];
+        let row = rows[i];
         let mut j = 0;
         while j < i {
-            let earlier = t.rows[j];
+            let earlier = rows[j];
             if breaks_rule(rule, row, earlier) {
                 break 'rows;
             }
@@ -255,41 +269,122 @@ fn first_clash(t: Table, rule: Rule) -> usize
     i
 }
 
-// The code of a rule, with the row.
-fn verdict_on(rule: Rule, row: usize) -> Verdict
-    ensures { λ r. ⌜ r ≡ ruleVerdict rule row ⌝ }
+// Whether a row has a place among slots and marks, as every row of a file has.
+fn has_place(row: Row) -> bool
+    ensures { λ r. ⌜ Decides r (Placed row) ⌝ }
 {
-    match rule {
-        Rule::SameId => Verdict::IdTwice(row),
-        Rule::SamePriority => Verdict::PriorityTwice(row),
-        Rule::KindsCrossed => Verdict::KindsCrossed(row),
+    if 3 < row.core {
+        return false;
+    }
+    if 1 < row.kind {
+        return false;
+    }
+    if 255 < row.priority {
+        return false;
+    }
+    true
+}
+
+// The slot of a row's core and priority, 256 a core.
+fn slot_of(row: Row) -> usize
+    requires { ⌜ Placed row ⌝ }
+    ensures { λ r. ⌜ r ≡ slotOf row ⌝ }
+{
+    row.core as usize * 256 + row.priority as usize
+}
+
+// Whether a row crosses kinds by the marks of its core.
+fn crosses_marks(row: Row, marks: Marks) -> bool
+    ensures { λ r. ⌜ r ≡ crossesMarks row marks ⌝ }
+{
+    if row.kind == 0 {
+        return row.priority < marks.highest;
+    }
+    marks.lowest < row.priority
+}
+
+// The marks of a core with a row more.
+fn marks_with(row: Row, marks: Marks) -> Marks
+    ensures { λ r. ⌜ r ≡ marksWith row marks ⌝ }
+{
+    if row.kind == 0 {
+        return Marks {
+            lowest: lists::smaller(marks.lowest, row.priority),
+            highest: marks.highest,
+        };
+    }
+    Marks {
+        lowest: marks.lowest,
+        highest: lists::larger(marks.highest, row.priority),
     }
 }
 
-// What one rule says of the whole table.
-fn rule_broken(t: Table, rule: Rule) -> Verdict
-    ensures { λ r. ⌜ r ≡ broken rule (usedRows t) ⌝ }
+// The first row that crosses kinds of the rows up to row i: `before`, or row i where it crosses and is the smaller.
+fn first_crossed(before: usize, crosses: bool, i: usize) -> usize
+    ensures { λ r. ⌜ r ≡ firstCrossed before crosses i ⌝ }
 {
-    let row = first_clash(t, rule);
-    if row < rows_used(t.count) {
-        return verdict_on(rule, row);
+    if crosses {
+        if i < before {
+            return i;
+        }
     }
-    Verdict::Good
+    before
+}
+
+// 5 and 6 of n rows in one pass, by a slot for each core and priority and two marks for each core, if every row has a place there.
+fn priority_clashes(rows: [Row; 64], n: usize) -> Firsts
+    requires { ⌜ n ≤ 64 ⌝ }
+    ensures { λ r. ⌜ FirstsOf (take n rows) r ⌝ }
+{
+    let unmet = Marks {
+        lowest: 256,
+        highest: 0,
+    };
+    let mut taken = [false; 1024];
+    let mut marks = [unmet; 4];
+    let mut crossed = n;
+    let mut i = 0;
+    while i < n {
+        let row = rows[i];
+        if !has_place(row) {
+            // no file has such a row: every two rows are compared
+            return Firsts {
+                twice: first_clash(rows, n, Rule::SamePriority),
+                crossed: first_clash(rows, n, Rule::KindsCrossed),
+            };
+        }
+        let slot = slot_of(row);
+        if taken[slot] {
+            return Firsts { twice: i, crossed };
+        }
+        taken[slot] = true;
+        let core = row.core as usize;
+        let kept = marks[core];
+        crossed = first_crossed(crossed, crosses_marks(row, kept), i);
+        marks[core] = marks_with(row, kept);
+        i += 1;
+    }
+    Firsts { twice: n, crossed }
 }
 
 // The rules over the whole table: 4, then 5, then 6.
 pub fn clash_of(t: Table) -> Verdict
     ensures { λ r. ⌜ r ≡ clashOf (usedRows t) ⌝ }
 {
-    let ids = rule_broken(t, Rule::SameId);
-    if code_of(ids) != 0 {
-        return ids;
+    let n = rows_used(t.count);
+    let rows = t.rows;
+    let id = first_clash(rows, n, Rule::SameId);
+    if id < n {
+        return Verdict::IdTwice(id);
     }
-    let priorities = rule_broken(t, Rule::SamePriority);
-    if code_of(priorities) != 0 {
-        return priorities;
+    let first = priority_clashes(rows, n);
+    if first.twice < n {
+        return Verdict::PriorityTwice(first.twice);
     }
-    rule_broken(t, Rule::KindsCrossed)
+    if first.crossed < n {
+        return Verdict::KindsCrossed(first.crossed);
+    }
+    Verdict::Good
 }
 
 // The first fault of numbers one after another, each with its range.

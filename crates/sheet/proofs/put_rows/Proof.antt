@@ -8,10 +8,11 @@ use lib.ListN.{length, getD, take, drop, drop-of-length-le}
 use lib.Seq.{drop-drop, length-take-le}
 use Rattle.lists.specs.Lists.{total}
 use Rattle.lists.proofs.Parts.{part-is, part-length}
+use Rattle.lists.proofs.Walks.{taken-more}
 use Rattle.table.specs.declared.Row.{Row}
 use Rattle.table.specs.declared.Table.{Table}
 use Rattle.table.specs.Memory.{zeroRow, partsIn, usedRows}
-use Rattle.table.proofs.Rows.{length-mapped, used-more}
+use Rattle.table.proofs.Rows.{length-mapped}
 use Rattle.text.specs.Promises.{Fits, PutAt}
 use Rattle.sheet.specs.Promises.{BoundsFor, rowText, rowsText}
 use Rattle.text.proofs.Puts.{Putting, starts, room, turn, ends}
@@ -43,7 +44,7 @@ module _ {core : ℕ} {t : Table} {bounds out₀ : List ℕ} {at : ℕ} {out : L
 
     -- it, and the others behind it
     next : drop i (usedRows t) ≡ row ∷ drop (i + 1) (usedRows t)
-    next = used-more (t .count) (t .rows) i h (k .rows-long)
+    next = taken-more zeroRow (t .count) (t .rows) i h (k .rows-long)
 
     -- there are bounds for it and for the others
     left-next : used + n + partsIn (drop (i + 1) (usedRows t)) ≤ length bounds

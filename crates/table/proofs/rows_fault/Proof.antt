@@ -5,6 +5,7 @@ use borrow.Author.Needs.{needs}
 use mathlib.Core.Path.{_≡_, refl, sym, ap, _∙_}
 use lib.ListN.{length, getD, drop, drop-of-length-le}
 use lib.Seq.{length-take-le}
+use Rattle.lists.proofs.Walks.{taken-more}
 use Rattle.table.specs.declared.Row.{Row}
 use Rattle.table.specs.declared.Table.{Table}
 use Rattle.table.specs.declared.Verdict.{Verdict}
@@ -14,7 +15,7 @@ use Rattle.table.specs.Memory.{zeroRow, usedRows}
 use Rattle.table.specs.Faults.{rowFault, rowsFault}
 use Rattle.table.proofs.Codes.{fault-stays, next-decides, first-good}
 use Rattle.table.proofs.Heads.{head-found}
-use Rattle.table.proofs.Rows.{length-mapped, used-more, faults-more}
+use Rattle.table.proofs.Rows.{length-mapped, faults-more}
 use Rattle.table.proofs.rows_fault.Statement.{statement}
 use Rattle.table.proofs.rows_fault.Tie as tie
 
@@ -35,7 +36,7 @@ module _ {t : Table} {used i : ℕ} (l : Looking t used i) where
         ≡ rowFault i used row (drop used (t .times))
         orElse rowsFault (i + 1) (used + row .parts) (drop (i + 1) (usedRows t)) (drop (used + row .parts) (t .times))
     unfolding row
-    step = l .same ∙ faults-more (usedRows t) row (t .times) i used (used-more (t .count) (t .rows) i h (l .few))
+    step = l .same ∙ faults-more (usedRows t) row (t .times) i used (taken-more zeroRow (t .count) (t .rows) i h (l .few))
 
     -- a fault is the first
     stops : (k ≡ 0 → ⊥) → v ≡ rowsFault 0 0 (usedRows t) (t .times)
