@@ -10,15 +10,15 @@
 mod program;
 mod splitmix;
 mod table;
+mod timed;
 
 use splitmix::Random;
-use std::io::Write;
 use std::process::ExitCode;
 use std::time::{Duration, Instant};
 use table::{file, row, Row, LIMIT};
+use timed::{run, RUNS};
 
-/// How many runs a time is the least of, and how long they may take in all.
-const RUNS: usize = 7;
+/// How long the runs that a time is the least of may take in all.
 const PATIENCE: Duration = Duration::from_secs(20);
 
 /// 60 rows on `cores` cores, each core loaded to about `load` thousandths, periods up to `longest`, `parts` parts a row.
@@ -39,28 +39,15 @@ fn sixty(random: &mut Random, cores: u64, load: u64, longest: u64, parts: u64) -
     file(&rows)
 }
 
-/// One run on a file.
-fn run(program: &str, file: &[u8]) -> Duration {
-    let began = Instant::now();
-    let mut child = program::command(program)
-        .spawn()
-        .expect("the program starts");
-    let mut input = child.stdin.take().expect("its input is a pipe");
-    let _ = input.write_all(file);
-    drop(input);
-    let _ = child.wait_with_output();
-    began.elapsed()
-}
-
 /// The least time of some runs.
 fn least(program: &str, file: &[u8]) -> Duration {
     let began = Instant::now();
-    let mut best = run(program, file);
+    let (mut best, _) = run(program, file);
     for _ in 1..RUNS {
         if began.elapsed() > PATIENCE {
             break;
         }
-        best = best.min(run(program, file));
+        best = best.min(run(program, file).0);
     }
     best
 }
