@@ -82,7 +82,8 @@ module _ (s : List ℕ) (l : Loaded) (read : l ≡ readAnswer s) where
 
   module _ (core : ℕ) (room : List ℕ) where
     -- a refused read
-    pub unread : (k : ℕ) → k ≡ codeOf (l .verdict) → (k ≡ 0 → ⊥) → {r : Analysed} → r ≡ refusal (l .verdict) → Analyses s core room r room
+    pub unread : (k : ℕ) → k ≡ codeOf (l .verdict) → (k ≡ 0 → ⊥)
+        → {r : Analysed} → r ≡ refusal (l .verdict) → Analyses s core room r room
     unfolding readAnswer fileSaid fileRows
     unread k code h {r = r} told = of (decode s) refl
       where

@@ -32,7 +32,8 @@ place-copies fill (suc m) zero x p = sym p
 place-copies fill (suc m) (suc i) x p = place-copies fill m i x p
 
 -- behind a list stands the fill
-place-fill : {A : Type 0} (fill : A) (m : ℕ) (xs : List A) (i : ℕ) (x : A) → length xs ≤ i → Place (xs ++ replicate m fill) i x → x ≡ fill
+place-fill : {A : Type 0} (fill : A) (m : ℕ) (xs : List A) (i : ℕ) (x : A)
+    → length xs ≤ i → Place (xs ++ replicate m fill) i x → x ≡ fill
 unfolding Place
 place-fill fill m [] i x h p = place-copies fill m i x p
 place-fill fill m (y ∷ ys) zero x h p = absurd (omega arith)

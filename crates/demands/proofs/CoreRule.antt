@@ -75,6 +75,7 @@ module _ (core : ℕ) (rows : List Task) (room : ℕ) where
   late-code (CoreRule.passes n p) e = absurd (omega arith)
 
   -- so it is with either
-  pub written-code : {v : Verdict} → CoreRule core rows room v → (codeOf v ≡ 0) ⊎ (codeOf v ≡ 12) → RoomFor core rows room × AllWindows rows
+  pub written-code : {v : Verdict} → CoreRule core rows room v → (codeOf v ≡ 0) ⊎ (codeOf v ≡ 12)
+      → RoomFor core rows room × AllWindows rows
   written-code r (inl e) = let c = passes-code r e in (c .0, c .1 .windows)
   written-code r (inr e) = late-code r e

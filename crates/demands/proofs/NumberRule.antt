@@ -60,7 +60,8 @@ judged w x =
 
 module _ (s : List ℕ) (w : Wanted) (at : ℕ) where
   -- a number that was got is refused with what is said of it
-  got-refused : (x next : ℕ) (v : Verdict) → numberAt s at ≡ N.Got x next → judge w at x ≡ v → good v ≡ false → fieldAt s w at ≡ stop v
+  got-refused : (x next : ℕ) (v : Verdict) → numberAt s at ≡ N.Got x next → judge w at x ≡ v
+      → good v ≡ false → fieldAt s w at ≡ stop v
   unfolding fieldAt asked unless
   got-refused x next v e j f = rw (e, j, f)
 

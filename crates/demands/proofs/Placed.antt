@@ -37,7 +37,8 @@ module _ {A B : Type 0} where
   made-place f (y ∷ ys) (suc i) z p = made-place f ys i z p
 
 -- where lists are made of elements, n of each, one stands behind those of the elements before
-each-placed : {A B : Type 0} (f : A → List B) (n : A → ℕ) → ((u : A) → length (f u) ≡ n u) → (ts : List A) (rest : List B) (i : ℕ) (t : A)
+each-placed : {A B : Type 0} (f : A → List B) (n : A → ℕ) → ((u : A) → length (f u) ≡ n u)
+    → (ts : List A) (rest : List B) (i : ℕ) (t : A)
     → Place ts i t → (p : ℕ) (x : B) → Place (f t) p x → Place (each f ts ++ rest) (total n (take i ts) + p) x
 each-placed f n own ts rest i t l p x q =
     place-left (each f ts) rest _ x

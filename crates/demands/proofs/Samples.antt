@@ -16,7 +16,8 @@ unfolding bytes-read
 read-a = refl
 
 -- its answer and its room
-bounds-a : Analyses (bytesA 20) 0 (0 ∷ 0 ∷ 0 ∷ 0 ∷ 0 ∷ 6 ∷ []) (record { verdict = C.Good; count = 5 }) (1 ∷ 5 ∷ 8 ∷ 7 ∷ 10 ∷ 6 ∷ [])
+bounds-a : Analyses (bytesA 20) 0 (0 ∷ 0 ∷ 0 ∷ 0 ∷ 0 ∷ 6 ∷ []) (record { verdict = C.Good; count = 5 })
+    (1 ∷ 5 ∷ 8 ∷ 7 ∷ 10 ∷ 6 ∷ [])
 unfolding answer-given
 bounds-a =
     let m = Model.samples in

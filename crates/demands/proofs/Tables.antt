@@ -139,7 +139,8 @@ rows-split i used (r ∷ rs) times =
 
 module _ (t : Table) where
   -- with a row count in range the first number at fault is named
-  bad-said : {n x : ℕ} {w : Wanted} (v : Verdict) → t .count ≤ 64 → InTable t n w x → judge w n x ≡ v → (codeOf v ≡ 0 → ⊥) → faultOf t ≡ v
+  bad-said : {n x : ℕ} {w : Wanted} (v : Verdict) → t .count ≤ 64 → InTable t n w x → judge w n x ≡ v
+      → (codeOf v ≡ 0 → ⊥) → faultOf t ≡ v
   unfolding faultOf
   bad-said v h a j f =
       let bad = rows-bad a (λ e. f (ap codeOf (sym j) ∙ e)) ∙ j in

@@ -29,7 +29,8 @@ abbrev pub Isolated : Type 0
 Isolated =
     (core : ℕ) (room : List ℕ) (s z : List ℕ) (tasks others : List Task) → GoodFile s tasks → GoodFile z others
     → onCore core tasks ≡ onCore core others
-    → (r q : Analysed) (room′ left : List ℕ) → Analyses s core room r room′ → Analyses z core room q left → (r ≡ q) × (room′ ≡ left)
+    → (r q : Analysed) (room′ left : List ℕ) → Analyses s core room r room′ → Analyses z core room q left
+    → (r ≡ q) × (room′ ≡ left)
 
 -- demand 2
 pub record Demand2 : Type 0 where

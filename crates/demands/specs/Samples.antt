@@ -14,7 +14,8 @@ use Rattle.analysis.specs.Analysis.{coreSaid, Analyses}
 -- Set A as a file, with task 3's deadline at d
 abbrev pub bytesA : ℕ → List ℕ
 bytesA d =
-    3 ∷ 1 ∷ 0 ∷ 0 ∷ 3 ∷ 5 ∷ 5 ∷ 1 ∷ 1 ∷ 2 ∷ 0 ∷ 1 ∷ 2 ∷ 10 ∷ 10 ∷ 2 ∷ 1 ∷ 2 ∷ 3 ∷ 0 ∷ 1 ∷ 1 ∷ 20 ∷ d ∷ 2 ∷ 2 ∷ 3 ∷ []
+    3 ∷ 1 ∷ 0 ∷ 0 ∷ 3 ∷ 5 ∷ 5 ∷ 1 ∷ 1 ∷ 2 ∷ 0 ∷ 1 ∷ 2 ∷ 10 ∷ 10 ∷ 2 ∷ 1 ∷ 2
+    ∷ 3 ∷ 0 ∷ 1 ∷ 1 ∷ 20 ∷ d ∷ 2 ∷ 2 ∷ 3 ∷ []
 
 -- all of them
 pub record Samples : Type 0 where
@@ -28,7 +29,8 @@ pub record Samples : Type 0 where
   -- Set A's 27 bytes are Set A
   pub readA : decode (bytesA 20) ≡ go (setA 20) 27
   -- its five bounds, in a room with one element more
-  pub boundsA : Analyses (bytesA 20) 0 (0 ∷ 0 ∷ 0 ∷ 0 ∷ 0 ∷ 6 ∷ []) (record { verdict = C.Good; count = 5 }) (1 ∷ 5 ∷ 8 ∷ 7 ∷ 10 ∷ 6 ∷ [])
+  pub boundsA : Analyses (bytesA 20) 0 (0 ∷ 0 ∷ 0 ∷ 0 ∷ 0 ∷ 6 ∷ []) (record { verdict = C.Good; count = 5 })
+      (1 ∷ 5 ∷ 8 ∷ 7 ∷ 10 ∷ 6 ∷ [])
   -- the verdicts as codes, with room enough
   pub goodA : coreSaid 0 (setA 10) 5 ≡ C.Good
   pub lateA : coreSaid 0 (setA 9) 5 ≡ C.Missed 3

@@ -88,7 +88,8 @@ pub record AsFile (t : Table) : Type 0 where
 pub record Tables : Type 0 where
   pub writing : (t : Table) (out : List ℕ) (r : Written) (out′ : List ℕ) → Wrote t out r out′
       → WriteSays t (fileOf t) out r out′
-  pub codes : (t : Table) → InMemory t → (core : ℕ) (room : List ℕ) (r : Analysed) (room′ : List ℕ) → AnalysesTable t core room r room′
+  pub codes : (t : Table) → InMemory t → (core : ℕ) (room : List ℕ) (r : Analysed) (room′ : List ℕ)
+      → AnalysesTable t core room r room′
       → (v : Verdict) → (r .verdict ≡ v) ↔ MemoryRule t core (length room) v
   -- a table with a fault of its own changes nothing lent
   pub kept : (t : Table) (core : ℕ) (room : List ℕ) (r : Analysed) (room′ : List ℕ) → AnalysesTable t core room r room′

@@ -63,7 +63,8 @@ pub record TextSamples : Type 0 where
   pub noField : decodeText (49 ∷ 44 ∷ 13 ∷ 120 ∷ []) ≡ stop (C.BadText 2)
   -- a bare LF behind a whole row: '1,0,0,3,5,5,1,1\n'
   pub bareFeed :
-      decodeText (49 ∷ 44 ∷ 48 ∷ 44 ∷ 48 ∷ 44 ∷ 51 ∷ 44 ∷ 53 ∷ 44 ∷ 53 ∷ 44 ∷ 49 ∷ 44 ∷ 49 ∷ 10 ∷ []) ≡ stop (C.BadText 15)
+      decodeText (49 ∷ 44 ∷ 48 ∷ 44 ∷ 48 ∷ 44 ∷ 51 ∷ 44 ∷ 53 ∷ 44 ∷ 53 ∷ 44 ∷ 49 ∷ 44 ∷ 49 ∷ 10 ∷ [])
+      ≡ stop (C.BadText 15)
   -- an empty line behind the first
   pub emptySecond : decodeText (line1 ++ (13 ∷ 10 ∷ [])) ≡ stop (C.BadText 17)
   -- twelve digits: '123456789012'

@@ -27,7 +27,8 @@ pub starts : (one : Wanted → ℕ → Step ℕ) (at : ℕ) (low high out : List
 starts one at low high out r =
     record { ranges = r; done = []; count = refl; upto = omega arith; put = sym (over-none _); same = refl }
 
-module _ {one : Wanted → ℕ → Step ℕ} {at : ℕ} {low high out₀ out : List ℕ} {p i : ℕ} (f : Filling one at low high out₀ out p i) where
+module _ {one : Wanted → ℕ → Step ℕ} {at : ℕ} {low high out₀ out : List ℕ} {p i : ℕ}
+    (f : Filling one at low high out₀ out p i) where
   -- the length stays
   pub long : length out ≡ length out₀
   long = ap length (f .put) ∙ over-length (f .done) out₀ (omega (arith, f .count, f .upto))

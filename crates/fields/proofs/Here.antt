@@ -16,7 +16,8 @@ use Rattle.fields.specs.Stepping.{Step, go, _then_, unless, asked, field
 use Rattle.fields.proofs.Sizes.{Four}
 
 -- a number that may stand there and stands there is read
-pub field-here : (s : List ℕ) (w : Wanted) (v : ℕ) (rest : List ℕ) (at : ℕ) → w .high < 128 ^ 4 → Fine w v → drop at s ≡ encode v ++ rest
+pub field-here : (s : List ℕ) (w : Wanted) (v : ℕ) (rest : List ℕ) (at : ℕ) → w .high < 128 ^ 4 → Fine w v
+    → drop at s ≡ encode v ++ rest
     → fieldAt s w at ≡ go v (at + length (encode v))
 unfolding fieldAt asked unless good
 field-here s w v rest at small f here =

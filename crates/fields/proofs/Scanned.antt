@@ -91,7 +91,8 @@ module _ {s : List ℕ} {at value p next : ℕ} (k : Scanning s at value p next)
     unfolding shortest
     ends-none e = by (k .done) (k .place) given
       where
-        by : (ds : List ℕ) → p ≡ at + length ds → decimalAt s at ≡ shortest ds at → Refused (BadText at) ≡ asField (held (decimalAt s at))
+        by : (ds : List ℕ) → p ≡ at + length ds → decimalAt s at ≡ shortest ds at
+            → Refused (BadText at) ≡ asField (held (decimalAt s at))
         by [] q g = sym (ap (λ x. asField (held x)) g)
         by (d ∷ ds) q g = absurd (omega arith)
 

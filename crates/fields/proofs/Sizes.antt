@@ -62,7 +62,8 @@ bytes-times (suc n) = omega (arith, bytes-times n)
 
 -- ---- where reading ends
 
-module _ (one : Wanted → ℕ → Step ℕ) (cost : ℕ → ℕ) (own : (w : Wanted) (at v n : ℕ) → one w at ≡ go v n → n ≤ at + cost v) where
+module _ (one : Wanted → ℕ → Step ℕ) (cost : ℕ → ℕ)
+    (own : (w : Wanted) (at v n : ℕ) → one w at ≡ go v n → n ≤ at + cost v) where
   -- numbers behind those that are done
   fields-end-from : (ws : List Wanted) (done : List ℕ) (at : ℕ) (all : List ℕ) (n : ℕ) → fieldsAt one ws done at ≡ go all n
       → n + total cost done ≤ at + total cost all

@@ -46,7 +46,8 @@ one-less =
 -- what a reader can follow with a pencil
 pub record MachineSample : Type 0 where
   -- task 1 cuts in at tick 5, while task 3's first part is open; at tick 14 nothing is left to run
-  pub all-together : ranIn (setA 20) together 16 ≡ 1 ∷ 2 ∷ 2 ∷ 2 ∷ 3 ∷ 1 ∷ 3 ∷ 3 ∷ 3 ∷ 3 ∷ 1 ∷ 2 ∷ 2 ∷ 2 ∷ 0 ∷ 1 ∷ []
+  pub all-together : ranIn (setA 20) together 16 ≡ 1 ∷ 2 ∷ 2 ∷ 2 ∷ 3 ∷ 1 ∷ 3 ∷ 3 ∷ 3
+      ∷ 3 ∷ 1 ∷ 2 ∷ 2 ∷ 2 ∷ 0 ∷ 1 ∷ []
   -- task 3's first part: before tick 6 it has run one of its two ticks, before tick 7 it has ended, at its bound
   pub part-open : standAt (setA 20) together 6 (a3 20) ≡ record { done = 0; at = 0; ran = 1 }
   pub part-ended : standAt (setA 20) together 7 (a3 20) ≡ record { done = 0; at = 1; ran = 0 }

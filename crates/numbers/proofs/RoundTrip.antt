@@ -48,7 +48,8 @@ module _ (rest : List ℕ) where
       go (no b) ih = let large : 128 ≤ n = omega arith in long alone (suc k) n large (ih large)
 
 -- a number that stands at a place is read there
-pub read-here : (s rest : List ℕ) (at n : ℕ) → n < 128 ^ 4 → drop at s ≡ encode n ++ rest → numberAt s at ≡ Got n (at + length (encode n))
+pub read-here : (s rest : List ℕ) (at n : ℕ) → n < 128 ^ 4 → drop at s ≡ encode n ++ rest
+    → numberAt s at ≡ Got n (at + length (encode n))
 unfolding numberAt
 read-here s rest at n h e =
     ap (λ (t : List ℕ). after 0 1 at (groups true 4 t)) (e ∙ ap (λ (f : List ℕ). f ++ rest) (sym (four n h)))

@@ -64,7 +64,8 @@ lines-same core rows (t ∷ ts) rest =
 -- ---- the verdict
 
 -- on one of the four cores, with room for its bounds: good, or code 11 or 12
-pub said-is : (core : ℕ) (rows : List Task) (room : ℕ) → core ≤ 3 → needed rows ≤ room → coreSaid core rows room ≡ named (coreVerdict rows)
+pub said-is : (core : ℕ) (rows : List Task) (room : ℕ) → core ≤ 3 → needed rows ≤ room
+    → coreSaid core rows room ≡ named (coreVerdict rows)
 unfolding coreSaid roomSaid
 said-is core rows room h fits = rw (le-ltb 3 core h, le-ltb room (needed rows) fits)
 

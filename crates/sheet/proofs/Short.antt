@@ -147,7 +147,8 @@ named-small rows g (noWindow t) j = omega (arith, g t (j .row) .id .most)
 named-small rows g (misses t) j = omega (arith, g t (j .row) .id .most)
 
 -- a core: its lines, where there are any, and its verdict
-core-short : (tasks : List Task) (core : ℕ) → core ≤ 3 → AllGood tasks → length (coreText tasks core) ≤ needed (onCore core tasks) * 29 + 28
+core-short : (tasks : List Task) (core : ℕ) → core ≤ 3 → AllGood tasks
+    → length (coreText tasks core) ≤ needed (onCore core tasks) * 29 + 28
 unfolding coreText coreTextOf onCore
 core-short tasks core c g =
     let rows : List Task = keep (λ t. eqb (t .core) core) tasks in

@@ -40,7 +40,8 @@ boundLinesA =
 
 -- core D code 0 number 0, with the digit D
 abbrev verdictA : ℕ → List ℕ
-verdictA d = coreA ++ (d ∷ 32 ∷ 99 ∷ 111 ∷ 100 ∷ 101 ∷ 32 ∷ 48 ∷ 32 ∷ 110 ∷ 117 ∷ 109 ∷ 98 ∷ 101 ∷ 114 ∷ 32 ∷ 48 ∷ 10 ∷ [])
+verdictA d =
+    coreA ++ (d ∷ 32 ∷ 99 ∷ 111 ∷ 100 ∷ 101 ∷ 32 ∷ 48 ∷ 32 ∷ 110 ∷ 117 ∷ 109 ∷ 98 ∷ 101 ∷ 114 ∷ 32 ∷ 48 ∷ 10 ∷ [])
 
 -- the digits are 0 to 3
 abbrev pub reportA : List ℕ

@@ -50,7 +50,8 @@ all-good (w ∷ ws) carried (n ∷ ns) f =
     or-good (judge w carried n) _ (ap codeOf (fine-good w carried n (f .0))) ∙ all-good ws carried ns (f .1)
 
 -- and no others have none
-pub good-all : (ws : List Wanted) (carried : ℕ) (ns : List ℕ) → length ws ≡ length ns → codeOf (faultIn ws carried ns) ≡ 0 → AllFine ws ns
+pub good-all : (ws : List Wanted) (carried : ℕ) (ns : List ℕ) → length ws ≡ length ns
+    → codeOf (faultIn ws carried ns) ≡ 0 → AllFine ws ns
 unfolding AllFine faultIn
 good-all [] carried [] l e = tt
 good-all [] carried (n ∷ ns) l e = absurd (omega arith)

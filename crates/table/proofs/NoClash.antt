@@ -54,7 +54,8 @@ module _ {A : Type 0} where
   apart-two f [] d a b m n = absurd (List·Memᴰ·not-nil m)
   apart-two f (x ∷ xs) d a b m n = go (List·Memᴰ·cases-cons m) (List·Memᴰ·cases-cons n) (λ p q. apart-two f xs (d .1) a b p q)
     where
-      go : (a ≡ x) ⊎ (a ∈ xs) → (b ≡ x) ⊎ (b ∈ xs) → (a ∈ xs → b ∈ xs → (a ≡ b) ⊎ ((f b a ≡ false) ⊎ (f a b ≡ false)))
+      go : (a ≡ x) ⊎ (a ∈ xs) → (b ≡ x) ⊎ (b ∈ xs)
+          → (a ∈ xs → b ∈ xs → (a ≡ b) ⊎ ((f b a ≡ false) ⊎ (f a b ≡ false)))
           → (a ≡ b) ⊎ ((f b a ≡ false) ⊎ (f a b ≡ false))
       go (inl p) (inl q) below = inl (p ∙ sym q)
       go (inl p) (inr q) below = inr (inl (ap (f b) p ∙ d .0 b q))

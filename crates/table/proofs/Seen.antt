@@ -11,7 +11,7 @@ use lib.ListN.{length, getD, set, replicate, length-set, length-replicate, getD-
 use lib.Seq.{getD-set-same, getD-set-other}
 use Rattle.lists.specs.Lists.{pick, any}
 use Rattle.lists.proofs.Anys.{any-snoc}
-use Rattle.lists.proofs.Tests.{by-test, either}
+use Rattle.lists.proofs.Tests.{by-test, never, either, not-below}
 use Rattle.table.specs.declared.Marks.{Marks}
 use Rattle.table.specs.declared.Row.{Row}
 use Rattle.table.specs.declared.Rule.{Rule}
@@ -56,28 +56,24 @@ pub record Seen (earlier : List Row) (taken : List Bool) (marks : List Marks) : 
   pub twice : Tells R.SamePriority slotOf (λ r b. b) false taken earlier
   pub crossing : Tells R.KindsCrossed (λ r. r .core) crossesMarks zeroMarks marks earlier
 
--- a test that holds exactly if one of two does
-either-test : (t a b : Bool) → (a ≡ true → t ≡ true) → (b ≡ true → t ≡ true) → (a ≡ false → b ≡ false → t ≡ false) → t ≡ pick a true b
-either-test t true b f g h = f refl
-either-test t false true f g h = g refl
-either-test t false false f g h = h refl refl
+-- two orders that hold together have the same test
+same-test : (a b c d : ℕ) → (a < b → c < d) → (c < d → a < b) → ltb a b ≡ ltb c d
+same-test a b c d f g =
+    by-test (ltb c d) (λ y. rw y (lt-ltb a b (g (ltb-true c d y))))
+    (λ n. rw n (le-ltb a b (not-below b a (λ h. never (lt-ltb c d (f h)) n))))
 
 module _ (m p q : ℕ) where
   -- the smaller of two is below a number if one of them is
   below-min : ltb (min m p) q ≡ pick (ltb p q) true (ltb m q)
   below-min =
-      either-test (ltb (min m p) q) (ltb p q) (ltb m q)
-      (λ y. lt-ltb (min m p) q (omega (arith, ltb-true p q y)))
-      (λ y. lt-ltb (min m p) q (omega (arith, ltb-true m q y)))
-      (λ f g. le-ltb (min m p) q (omega (arith, ltb-false p q f, ltb-false m q g)))
+      by-test (ltb p q) (λ y. rw y (lt-ltb (min m p) q (omega (arith, ltb-true p q y))))
+      (λ n. rw n (same-test (min m p) q m q (λ h. omega (arith, ltb-false p q n)) (λ h. omega arith)))
 
   -- a number is below the larger of two if it is below one of them
   below-max : ltb q (max m p) ≡ pick (ltb q p) true (ltb q m)
   below-max =
-      either-test (ltb q (max m p)) (ltb q p) (ltb q m)
-      (λ y. lt-ltb q (max m p) (omega (arith, ltb-true q p y)))
-      (λ y. lt-ltb q (max m p) (omega (arith, ltb-true q m y)))
-      (λ f g. le-ltb q (max m p) (omega (arith, ltb-false q p f, ltb-false q m g)))
+      by-test (ltb q p) (λ y. rw y (lt-ltb q (max m p) (omega (arith, ltb-true q p y))))
+      (λ n. rw n (same-test q (max m p) q m (λ h. omega (arith, ltb-false q p n)) (λ h. omega arith)))
 
 -- a row is preemptive or cooperative
 kind-of : {r : Row} → Placed r → (r .kind ≡ 0) ⊎ (r .kind ≡ 1)

@@ -46,7 +46,8 @@ module _ (fault : Verdict) (new out : List ℕ) where
   room-good fine h = by-room fine (length out) ∙ rw (le-ltb (length out) (length new) h)
 
   -- so the bytes are written
-  pub writes-all : codeOf fault ≡ 0 → (size : ℕ) → length new ≡ size → size ≤ length out → (out′ : List ℕ) → out′ ≡ over new out
+  pub writes-all : codeOf fault ≡ 0 → (size : ℕ) → length new ≡ size → size ≤ length out
+      → (out′ : List ℕ) → out′ ≡ over new out
       → Writes fault new out (record { verdict = Good; count = size }) out′
   unfolding answerOn bytesLeft good
   writes-all fine size same h out′ e =

@@ -26,7 +26,8 @@ pub fits-as : {a b : List ℕ} {at : ℕ} {out : List ℕ} → a ≡ b → Fits 
 fits-as e h = rw e at h
 
 -- and is put the same
-pub put-as : {a b : List ℕ} {at : ℕ} {out : List ℕ} {q : ℕ} {out′ : List ℕ} → a ≡ b → PutAt b at out q out′ → PutAt a at out q out′
+pub put-as : {a b : List ℕ} {at : ℕ} {out : List ℕ} {q : ℕ} {out′ : List ℕ}
+    → a ≡ b → PutAt b at out q out′ → PutAt a at out q out′
 put-as e put = rw e put
 
 -- one byte
@@ -39,7 +40,8 @@ module _ {whole out₀ : List ℕ} {at : ℕ} {out : List ℕ} {p : ℕ} {rest :
   room a more e = record { room = omega (arith, k .fits .room, ap length e, length-append a more) }
 
   -- and once it is put, the others are left
-  pub turn : (a more : List ℕ) → rest ≡ a ++ more → {q : ℕ} {out′ : List ℕ} → PutAt a p out q out′ → Putting whole out₀ at out′ q more
+  pub turn : (a more : List ℕ) → rest ≡ a ++ more → {q : ℕ} {out′ : List ℕ}
+      → PutAt a p out q out′ → Putting whole out₀ at out′ q more
   turn a more e {q} {out′} put =
       let long : length out′ ≡ length out = ap length (put .stored) ∙ length-sets out p a in
       let cut : length rest ≡ length a + length more = ap length e ∙ length-append a more in

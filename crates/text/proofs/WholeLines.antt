@@ -58,7 +58,8 @@ decimals-plain (n ∷ ns) = rw (decimal-plain n) (decimals-plain ns)
 -- ---- lines
 
 -- bytes without a line feed belong to the first line behind them
-longer-line : (w rest l : List ℕ) (ls : List (List ℕ)) → any isFeed w ≡ false → linesIn rest ≡ l ∷ ls → linesIn (w ++ rest) ≡ (w ++ l) ∷ ls
+longer-line : (w rest l : List ℕ) (ls : List (List ℕ)) → any isFeed w ≡ false → linesIn rest ≡ l ∷ ls
+    → linesIn (w ++ rest) ≡ (w ++ l) ∷ ls
 unfolding linesIn inFirst
 longer-line [] rest l ls e q = q
 longer-line (b ∷ w) rest l ls e q =
