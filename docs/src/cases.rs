@@ -202,12 +202,14 @@ fn delay_cases() -> Vec<Named> {
     let at_start = two([1, 1], [4, 9], &[1], &[1, 1, 2]);
     let cut_in = two([0, 1], [5, 30], &[2], &[4, 1, 6]);
     let longest = two([1, 1], [90, 90], &[3], &[5, 8, 4]);
+    let one_tick = two([1, 1], [7, 9], &[2, 1], &[1, 1]);
     let preemptive = two([0, 0], [9, 14], &[5], &[3, 3]);
     let cooperative = two([1, 1], [8, 12], &[3], &[4, 3]);
     vec![
         ("a release at the start tick", at_start),
         ("a part cut in on", cut_in),
-        ("the longest part blocks", longest),
+        ("the longest part less one tick blocks", longest),
+        ("a part of one tick blocks nobody", one_tick),
         ("the last job decides, preemptive", preemptive),
         ("the last job decides, cooperative", cooperative),
     ]
@@ -215,14 +217,14 @@ fn delay_cases() -> Vec<Named> {
 
 fn limit_cases() -> Vec<Named> {
     let half = 8_388_608;
-    let window = |blocking| two([1, 1], [half, LIMIT], &[half - 100], &[blocking]);
+    let window = |lower| two([1, 1], [half, LIMIT], &[half - 100], &[lower]);
     let sum = |period, times: &[u64]| file(&[row([9, 3, 1, 7, period, LIMIT], times)]);
     let most_times = [LIMIT; 64];
     let up_to_limit = two([0, 0], [LIMIT, LIMIT], &[LIMIT - 1], &[1]);
     vec![
         ("windows up to 16,777,215", up_to_limit),
-        ("B gives a window of 16,777,215", window(199)),
-        ("B gives a window of 16,777,216", window(200)),
+        ("B gives a window of 16,777,215", window(200)),
+        ("B gives a window of 16,777,216", window(201)),
         ("up(L/T) times C is 2^32", sum(1, &[65_536])),
         ("the largest C", sum(LIMIT, &most_times)),
         ("the largest C, T 1", sum(1, &most_times)),

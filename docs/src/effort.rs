@@ -8,14 +8,15 @@ pub const MOST_STEPS: u64 = 10_000_000;
 /// The window of a row, if any, and the rounds of its search, which end at `most`.
 pub fn window(table: &[Row], row: &Row, most: u64) -> (Option<u64>, u64) {
     let mut loads = Vec::new();
-    let mut blocking = 0;
+    let mut longest_lower: u64 = 0;
     for other in table.iter().filter(|other| other.core == row.core) {
         if other.priority >= row.priority {
             loads.push((other.period, other.times.iter().sum()));
         } else if row.kind == 1 {
-            blocking = other.times.iter().copied().fold(blocking, u64::max);
+            longest_lower = other.times.iter().copied().fold(longest_lower, u64::max);
         }
     }
+    let blocking = longest_lower.saturating_sub(1);
     let demand = |length: u64| -> u64 {
         let shares = loads
             .iter()

@@ -63,16 +63,14 @@ fn load(row: &Row) -> Load {
     }
 }
 
-/// Blocking B (equation 10).
+/// Blocking B (equation 10): the longest lower part, less the tick that it had run before.
 fn blocking(on_core: &[&Row], row: &Row) -> u64 {
     if row.kind == PREEMPTIVE {
         return 0;
     }
     let lower = on_core.iter().filter(|r| r.priority < row.priority);
-    lower
-        .flat_map(|r| r.times.iter().copied())
-        .max()
-        .unwrap_or(0)
+    let longest = lower.flat_map(|r| r.times.iter()).max();
+    longest.map_or(0, |ticks| ticks - 1)
 }
 
 /// Window L (equations 4 and 9), searched from the row's C; none above the limit.

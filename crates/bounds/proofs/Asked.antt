@@ -5,8 +5,7 @@ use mathlib.Core.List.{List, _∷_}
 use native.Mathlib.Omega.{arith}
 use lib.ListN.{length, getD}
 use Rattle.lists.specs.Lists.{_∈_, each, total}
-use Rattle.lists.proofs.Sums.{largest-most}
-use Rattle.model.specs.Task.{Task, cost, part, parts}
+use Rattle.model.specs.Task.{Task, cost}
 use Rattle.model.specs.Rows.{GoodCore}
 use Rattle.model.specs.Least.{least, rounds}
 use Rattle.model.specs.Bounds.{limit, higher, blocking, demand}
@@ -19,10 +18,8 @@ use Rattle.bounds.proofs.Sides.{work-loads, summable-own}
 
 module _ (rows : List Task) (core : GoodCore rows) (t : Task) (m : t ∈ rows) where
   -- the blocking is in range
-  pub blocking-small : blocking rows t ≤ 16777215
-  unfolding part parts
-  blocking-small =
-      blocking-most rows t 16777215 (λ u n h. largest-most (u .times) 16777215 (λ r q. core .good u n .time r q .most))
+  pub blocking-small : blocking rows t ≤ 16777214
+  blocking-small = blocking-most rows t 16777214 (λ u n h r q. core .good u n .time r q .most)
 
   -- the search's right side is the window's
   side-demand : (x : ℕ) → side (loads (t ∷ higher rows t)) (blocking rows t) x ≡ demand rows t x

@@ -1,5 +1,5 @@
 -- What is asked of a core's rows is what the model says of them: the rows of a sum, the blocking. Assumes nothing.
-use Prim.Native.Nat.{ℕ}
+use Prim.Native.Nat.{ℕ, _-_}
 use mathlib.Core.Path.{_≡_, sym, ap, _∙_}
 use mathlib.Core.List.{List, _∷_, _++_, map, map-map}
 use lib.ListN.{length, take, length-map}
@@ -65,5 +65,5 @@ module _ (rows : List Task) (i : ℕ) (t : Task) (at : Place rows i t) where
   blocking-in-is =
       rw asked-is
       (by-test (cooperative t)
-      (λ e. rw e (longest-is (t .priority) rows ∙ sym (blocking-is rows t e)))
+      (λ e. rw e (ap (λ n. n - 1) (longest-is (t .priority) rows) ∙ sym (blocking-is rows t e)))
       (λ e. rw e (sym (no-blocking rows t e))))

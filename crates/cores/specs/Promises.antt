@@ -1,5 +1,5 @@
 -- Inner: what the functions on what is asked of rows promise, in those numbers.
-use Prim.Native.Nat.{ℕ, _≤_}
+use Prim.Native.Nat.{ℕ, _-_, _≤_}
 use mathlib.Core.Path.{_≡_}
 use mathlib.Core.Bool.{Bool}
 use mathlib.Core.List.{List, [], _∷_, map}
@@ -39,9 +39,9 @@ ownFirst rows i = each askedLoad (askedAt rows i ∷ keep (isWanted (Above (aske
 abbrev pub longestBelow : ℕ → List Asked → ℕ
 longestBelow priority rows = largest (map (λ a. a .longest) (keep (λ a. ltb (a .priority) priority) rows))
 
--- the blocking of row i: only a cooperative row has one
+-- the blocking of row i: only a cooperative row has one, and 0 - 1 is 0
 abbrev pub blockingIn : List Asked → ℕ → ℕ
-blockingIn rows i = pick (eqb (askedAt rows i .kind) 1) (longestBelow (askedAt rows i .priority) rows) 0
+blockingIn rows i = pick (eqb (askedAt rows i .kind) 1) (longestBelow (askedAt rows i .priority) rows - 1) 0
 
 -- the numbers stand in front, the rest of the old stays, and `end` is where they end
 pub record PutInFront (numbers old new : List ℕ) (end : ℕ) : Type 0 where

@@ -194,14 +194,18 @@ fn longest_below(asked: [Asked; 64], count: usize, priority: u32) -> u32
     most
 }
 
-// The blocking of row `own`: the longest part among lower rows for a cooperative row, else 0.
+// The blocking of row `own`: for a cooperative row the longest lower part less the tick that it had run before, else 0.
 pub fn blocking_of(asked: [Asked; 64], count: usize, own: usize) -> u64
     requires { ⌜ (own < count) × (count ≤ 64) ⌝ }
     ensures { λ r. ⌜ r ≡ blockingIn (take count asked) own ⌝ }
 {
     let a = asked[own];
-    if a.kind == 1 {
-        return longest_below(asked, count, a.priority) as u64;
+    if a.kind != 1 {
+        return 0;
     }
-    0
+    let longest = longest_below(asked, count, a.priority);
+    if longest == 0 {
+        return 0;
+    }
+    (longest - 1) as u64
 }

@@ -17,7 +17,7 @@ read-a = refl
 
 -- its answer and its room
 bounds-a : Analyses (bytesA 20) 0 (0 ∷ 0 ∷ 0 ∷ 0 ∷ 0 ∷ 6 ∷ []) (record { verdict = C.Good; count = 5 })
-    (1 ∷ 5 ∷ 8 ∷ 7 ∷ 10 ∷ 6 ∷ [])
+    (1 ∷ 4 ∷ 7 ∷ 7 ∷ 10 ∷ 6 ∷ [])
 unfolding answer-given
 bounds-a =
     let m = Model.samples in
@@ -43,5 +43,5 @@ samples =
       lateA = rw (m .lateA);
       limitGood = rw (m .limitGood);
       limitOver = rw (m .limitOver);
-      fullUpper = rw (m .fullUpper);
+      fullLower = rw (m .fullLower);
     }

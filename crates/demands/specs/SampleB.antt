@@ -79,13 +79,13 @@ headerB =
 abbrev pub line21Part1 : List ℕ
 line21Part1 = 48 ∷ 32 ∷ 50 ∷ 49 ∷ 32 ∷ 49 ∷ 32 ∷ 50 ∷ 32 ∷ 57 ∷ 10 ∷ []
 
--- 0 22 1 23 32
+-- 0 22 1 22 32
 abbrev pub line22Part1 : List ℕ
-line22Part1 = 48 ∷ 32 ∷ 50 ∷ 50 ∷ 32 ∷ 49 ∷ 32 ∷ 50 ∷ 51 ∷ 32 ∷ 51 ∷ 50 ∷ 10 ∷ []
+line22Part1 = 48 ∷ 32 ∷ 50 ∷ 50 ∷ 32 ∷ 49 ∷ 32 ∷ 50 ∷ 50 ∷ 32 ∷ 51 ∷ 50 ∷ 10 ∷ []
 
--- 0 22 2 29 32
+-- 0 22 2 26 32
 abbrev pub line22Part2 : List ℕ
-line22Part2 = 48 ∷ 32 ∷ 50 ∷ 50 ∷ 32 ∷ 50 ∷ 32 ∷ 50 ∷ 57 ∷ 32 ∷ 51 ∷ 50 ∷ 10 ∷ []
+line22Part2 = 48 ∷ 32 ∷ 50 ∷ 50 ∷ 32 ∷ 50 ∷ 32 ∷ 50 ∷ 54 ∷ 32 ∷ 51 ∷ 50 ∷ 10 ∷ []
 
 -- 0 23 1 19 55
 abbrev pub line23Part1 : List ℕ
@@ -190,7 +190,7 @@ pub record SampleB : Type 0 where
   pub reads : decode bytesB ≡ go tasksB 74
   -- core 0 passes
   pub core0 : Analyses bytesB 0 (0 ∷ 0 ∷ 0 ∷ 0 ∷ 0 ∷ 71 ∷ 72 ∷ []) (record { verdict = C.Good; count = 5 })
-      (2 ∷ 23 ∷ 29 ∷ 19 ∷ 37 ∷ 71 ∷ 72 ∷ [])
+      (2 ∷ 22 ∷ 26 ∷ 19 ∷ 37 ∷ 71 ∷ 72 ∷ [])
   -- core 1 misses a deadline: every bound is written
   pub core1 : Analyses bytesB 1 (0 ∷ 0 ∷ 71 ∷ 72 ∷ []) (record { verdict = C.Missed 33; count = 2 }) (6 ∷ 17 ∷ 71 ∷ 72 ∷ [])
   -- core 2 has a row without a window: nothing is written

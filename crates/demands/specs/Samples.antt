@@ -1,4 +1,5 @@
--- The samples of document 01 that are marked P, together: those on the bounds, those on bytes, and Set A's answer.
+-- The samples of document 01 that are marked P, with the values that document 02, §3, gives them, together: those on the bounds, those on
+-- bytes, and Set A's answer.
 use Prim.Native.Nat.{ℕ}
 use mathlib.Core.Path.{_≡_}
 use mathlib.Core.List.{List, [], _∷_}
@@ -30,10 +31,10 @@ pub record Samples : Type 0 where
   pub readA : decode (bytesA 20) ≡ go (setA 20) 27
   -- its five bounds, in a room with one element more
   pub boundsA : Analyses (bytesA 20) 0 (0 ∷ 0 ∷ 0 ∷ 0 ∷ 0 ∷ 6 ∷ []) (record { verdict = C.Good; count = 5 })
-      (1 ∷ 5 ∷ 8 ∷ 7 ∷ 10 ∷ 6 ∷ [])
+      (1 ∷ 4 ∷ 7 ∷ 7 ∷ 10 ∷ 6 ∷ [])
   -- the verdicts as codes, with room enough
   pub goodA : coreSaid 0 (setA 10) 5 ≡ C.Good
   pub lateA : coreSaid 0 (setA 9) 5 ≡ C.Missed 3
   pub limitGood : coreSaid 0 (one 16777215) 1 ≡ C.Good
   pub limitOver : coreSaid 0 (one 16777214) 1 ≡ C.NoWindow 1
-  pub fullUpper : coreSaid 0 full 2 ≡ C.NoWindow 1
+  pub fullLower : coreSaid 0 full 2 ≡ C.NoWindow 2

@@ -27,7 +27,7 @@ module _ (play : Play) (row : Task) (m : row ∈ play .rows) where
   unfolding cooperative
   blocks u b r =
       let coop : cooperative row ≡ true = eq-eqb (row .kind) 1 (b .row-kind) in
-      omega (arith, blocking-part rows row coop u (b .its-row) (b .lower) r)
+      blocking-part rows row coop u (b .its-row) (b .lower) r
 
   -- the work of the row and the higher ones before tick t
   abbrev pub workUp : ℕ → ℕ

@@ -5,4 +5,12 @@ use Rattle.model.proofs.Computed.{machine-ticks, part-ends}
 
 pub begun-sample : BegunSample
 unfolding machine-ticks part-ends
-begun-sample = record { runs-on = refl; ends-on = (refl, refl); stops = refl; ends-late = (refl, refl) }
+begun-sample =
+    record {
+      runs-on = refl;
+      ends-on = (refl, refl);
+      stops = refl;
+      ends-late = (refl, refl);
+      waits = refl;
+      ends-behind = (refl, refl, refl);
+    }

@@ -65,18 +65,18 @@ overC : coreVerdict (one 16777214) ≡ noWindow (most 16777214)
 unfolding verdicts
 overC = rw windowO
 
--- rows that leave no tick free
-windowD1 : window full d1 ≡ Nothing
-unfolding rows window
-windowD1 = least-never _ 1 limit (λ z a. omega (arith, before-is d1 z, up-one z))
+-- the upper of two rows that ask for more than every tick
+windowD1 : window full d1 ≡ At 1
+unfolding sides window
+windowD1 = refl
 
 -- the lower of them
 windowD2 : window full d2 ≡ Nothing
 unfolding rows window
 windowD2 = least-never _ 1 limit (λ z a. omega (arith, before-is d1 z, up-one z, before-pos d2 (lit< tt) z a))
 
--- the verdict names the upper
-fullD : coreVerdict full ≡ noWindow d1
+-- the verdict names the lower
+fullD : coreVerdict full ≡ noWindow d2
 unfolding verdicts
 fullD = rw (windowD1, windowD2)
 
@@ -85,6 +85,7 @@ pub samples : BoundSamples
 unfolding all
 samples =
     record {
+      blockedA = (refl, refl, refl);
       windowsA = (refl, refl, refl);
       boundsA1 = refl;
       boundsA2 = (refl, refl);
@@ -99,5 +100,6 @@ samples =
       boundB = refl;
       limitGood = goodC;
       limitOver = overC;
-      fullUpper = fullD;
+      oneTick = (refl, windowD1);
+      fullLower = fullD;
     }

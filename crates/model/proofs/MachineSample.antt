@@ -12,6 +12,7 @@ machine-sample =
       part-ended = refl;
       job-done = refl;
       later-second = refl;
+      third-blocks = refl;
       two-pending = (refl, refl);
       first-ends = refl;
       second-begins = refl;

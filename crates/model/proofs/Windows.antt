@@ -1,5 +1,5 @@
 -- A row above one that has a window has a window too, and no longer one.
-use Prim.Native.Nat.{ℕ, _+_, _-_, _*_, _≤_, _<_}
+use Prim.Native.Nat.{ℕ, suc, _+_, _-_, _*_, _≤_, _<_}
 use mathlib.Core.Path.{_≡_, ap}
 use mathlib.Core.Bool.{Bool, true}
 use mathlib.Core.List.{List}
@@ -8,28 +8,26 @@ use native.Mathlib.Nat.{le-trans, le-refl, mul-le-mul-right}
 use native.Mathlib.Omega.{arith}
 use lib.Dec.{ltb, leb}
 use borrow.Author.Tests.{lt-ltb, le-ltb, ltb-true, le-leb, lt-leb, leb-true}
-use Rattle.lists.specs.Lists.{_∈_, keep, total, largest}
+use Rattle.lists.specs.Lists.{_∈_, keep, total}
 use Rattle.lists.proofs.Tests.{by-test, either}
-use Rattle.lists.proofs.Sums.{largest-sum}
 use Rattle.lists.proofs.Totals.{total-newly}
 use Rattle.model.specs.declared.Found.the-variants.{At}
-use Rattle.model.specs.Task.{Task, cost}
+use Rattle.model.specs.Task.{Task, part, cost}
 use Rattle.model.specs.Rows.{GoodCore}
 use Rattle.model.specs.Bounds.{limit, cooperative, before, higher, blocking, demand, window}
 use Rattle.model.proofs.Climb.{least-exists}
 use Rattle.model.proofs.Rounding.{before-pos}
 use Rattle.model.proofs.Rows.{period-pos, preemptive-higher, other-kind, same-row}
-use Rattle.model.proofs.Parts.{cost-pos}
-use Rattle.model.proofs.Blocking.{no-blocking, blocking-row, blocking-most}
+use Rattle.model.proofs.Parts.{parts-suc, parts-cost, cost-pos}
+use Rattle.model.proofs.Blocking.{no-blocking, blocking-part, blocking-most}
 use Rattle.model.proofs.Demand.{work, demand-is, demand-mono, demand-cost}
 use Rattle.model.proofs.Exists.{the-window}
 
--- the longest part of a row is within what the row asks for
-longest-asked : (t : Task) → 0 < t .period → (x : ℕ) → 0 < x → largest (t .times) ≤ before t x * cost t
-unfolding cost
-longest-asked t p x h =
+-- each part of a row is within what the row asks for
+part-asked : (t : Task) → 0 < t .period → (x : ℕ) → 0 < x → (r : ℕ) → part t r ≤ before t x * cost t
+part-asked t p x h r =
     let once : 1 * cost t ≤ before t x * cost t = mul-le-mul-right (cost t) (before-pos t p x h) in
-    omega (arith, largest-sum (t .times))
+    omega (arith, parts-suc t r, parts-cost t (suc r))
 
 module _ (rows : List Task) (core : GoodCore rows) (t : Task) (m : t ∈ rows) (L : ℕ) (w : window rows t ≡ At L)
     (u : Task) (n : u ∈ rows) (above : t .priority < u .priority) where
@@ -68,26 +66,26 @@ module _ (rows : List Task) (core : GoodCore rows) (t : Task) (m : t ∈ rows) (
   positive = the-window rows core t m L w .above
 
   -- over a cooperative row, with a part of a lower row
-  blocked : cooperative t ≡ true → (v : Task) → v ∈ rows → v .priority < u .priority
-      → largest (v .times) ≤ L - (before u L * cost u + work (higher rows u) L)
-  blocked c v k b =
-      ⊎-elim (λ lower. omega (arith, asked, upper, blocking-row rows t c v k lower))
+  blocked : cooperative t ≡ true → (v : Task) → v ∈ rows → v .priority < u .priority → (r : ℕ)
+      → part v r ≤ suc (L - (before u L * cost u + work (higher rows u) L))
+  blocked c v k b r =
+      ⊎-elim (λ lower. omega (arith, asked, upper, blocking-part rows t c v k lower r))
       (λ notLower.
-      ⊎-elim (λ inside. omega (arith, asked, between v k inside b, longest v k))
+      ⊎-elim (λ inside. omega (arith, asked, between v k inside b, within v k))
       (λ notAbove.
       (let same : v ≡ t = same-row rows (core .distinct) v t k m (omega arith) in
-      omega (arith, asked, upper, longest t m, ap (λ (x : Task). largest (x .times)) same)))
+      omega (arith, asked, upper, within t m, ap (λ (x : Task). part x r) same)))
       (either (t .priority) (v .priority)))
       (either (v .priority) (t .priority))
     where
-      longest : (x : Task) → x ∈ rows → largest (x .times) ≤ before x L * cost x
-      longest x l = longest-asked x (period-pos rows core x l) L positive
+      within : (x : Task) → x ∈ rows → part x r ≤ before x L * cost x
+      within x l = part-asked x (period-pos rows core x l) L positive r
 
   -- the upper row asks for no more than L
   ends : demand rows u L ≤ L
   ends =
       by-test (cooperative u)
-      (λ c. omega (arith, asked, upper, demand-is rows u L, blocking-most rows u _ (blocked (lower-kind c))))
+      (λ c. omega (arith, asked, upper, demand-is rows u L, blocking-most rows u _ (λ v k b r q. blocked (lower-kind c) v k b r)))
       (λ c. omega (arith, asked, upper, demand-is rows u L, no-blocking rows u c))
     where
       lower-kind : cooperative u ≡ true → cooperative t ≡ true

@@ -1,4 +1,4 @@
--- The samples of document 01 on the bounds that are marked P, as one statement.
+-- The samples of document 01 on the bounds that are marked P, with the values that document 02, §3, gives them, as one statement.
 use Prim.Native.Nat.{ℕ, _+_, _-_, _*_}
 use mathlib.Core.Path.{_≡_}
 use mathlib.Core.List.{List, [], _∷_}
@@ -71,9 +71,11 @@ module _ (rows : List Task) (t : Task) (r : ℕ) where
       limit
 
 pub record BoundSamples : Type 0 where
-  pub windowsA : (window (setA 20) a1 ≡ At 1) × (window (setA 20) a2 ≡ At 8) × (window (setA 20) (a3 20) ≡ At 10)
+  -- nothing blocks a preemptive row, nor a row with none below it
+  pub blockedA : (blocking (setA 20) a1 ≡ 0) × (blocking (setA 20) a2 ≡ 2) × (blocking (setA 20) (a3 20) ≡ 0)
+  pub windowsA : (window (setA 20) a1 ≡ At 1) × (window (setA 20) a2 ≡ At 7) × (window (setA 20) (a3 20) ≡ At 10)
   pub boundsA1 : bound (setA 20) a1 0 ≡ 1
-  pub boundsA2 : (bound (setA 20) a2 0 ≡ 5) × (bound (setA 20) a2 1 ≡ 8)
+  pub boundsA2 : (bound (setA 20) a2 0 ≡ 4) × (bound (setA 20) a2 1 ≡ 7)
   pub boundsA3 : (bound (setA 20) (a3 20) 0 ≡ 7) × (bound (setA 20) (a3 20) 1 ≡ 10)
   pub partA : (start (setA 20) (a3 20) 0 0 ≡ At 4) × (finish (setA 20) (a3 20) 0 0 ≡ At 7)
   pub printedA : (printedStart (setA 20) (a3 20) 0 0 ≡ At 9) × (printedEnd (setA 20) (a3 20) 0 9 ≡ At 11)
@@ -85,4 +87,6 @@ pub record BoundSamples : Type 0 where
   pub boundB : bound pair b2 0 ≡ 118
   pub limitGood : coreVerdict (one 16777215) ≡ passes
   pub limitOver : coreVerdict (one 16777214) ≡ noWindow (most 16777214)
-  pub fullUpper : coreVerdict full ≡ noWindow d1
+  -- a lower part of one tick blocks nobody, so the upper row has a window
+  pub oneTick : (blocking full d1 ≡ 0) × (window full d1 ≡ At 1)
+  pub fullLower : coreVerdict full ≡ noWindow d2

@@ -1,4 +1,5 @@
--- Document 01, "The bounds", for the rows of one core. Jobs are numbered by j from 0: the paper's k − 1.
+-- Document 01, "The bounds", with B as document 02, §3, sets it, for the rows of one core. Jobs are numbered by j from 0: the paper's
+-- k − 1.
 use Prim.Native.Nat.{ℕ, suc, _+_, _-_, _*_, _/_}
 use mathlib.Core.Bool.{Bool, true, false, not}
 use mathlib.Core.List.{List, [], _∷_, map}
@@ -45,9 +46,10 @@ module _ (rows : List Task) (t : Task) where
   unfoldable pub lower : List Task
   lower = keep (λ u. ltb (u .priority) (t .priority)) rows
 
-  -- B: the largest single part time among lower rows (equation 10)
+  -- B: the longest lower part less one tick, since it is in the way only if it had run a tick before (equation 10, as 02 sets it);
+  -- a preemptive row has none, and 0 - 1 is 0: none where there is no lower row
   unfoldable pub blocking : ℕ
-  blocking = pick (cooperative t) (largest (map (λ u. largest (u .times)) lower)) 0
+  blocking = pick (cooperative t) (largest (map (λ u. largest (u .times)) lower) - 1) 0
 
   -- L: the least positive length equal to B and the work of this row and all higher ones (4, 9)
   unfoldable pub demand : ℕ → ℕ
