@@ -1,4 +1,5 @@
--- The model's windows and bounds are those of the equations, and no other numbers are. From the laws of `least` and of windows.
+-- The model's B, windows and bounds are those of the equations, and no other numbers are. From the laws of `blocking`, of `least` and
+-- of windows.
 use Prim.Native.Nat.{ℕ, zero, suc, _+_, _-_, _*_, _≤_, _<_}
 use native.Mathlib.Nat.{le-antisymm}
 use native.Mathlib.Omega.{arith}
@@ -8,18 +9,59 @@ use mathlib.Core.Bool.{true}
 use mathlib.Core.List.{List}
 use Rattle.lists.specs.Lists.{_∈_}
 use Rattle.lists.proofs.Tests.{by-test, either}
+use Rattle.lists.proofs.Members.{all-or-one}
 use Rattle.model.specs.declared.Found.the-variants.{At, Nothing}
 use Rattle.model.specs.Task.{Task, part, parts}
 use Rattle.model.specs.Rows.{GoodTask, GoodCore}
 use Rattle.model.specs.Least.{IsLeast, value, maxBelow}
-use Rattle.model.specs.Bounds.{limit, cooperative, preemptive, before, through, demand, window, jobs}
+use Rattle.model.specs.Bounds.{limit, cooperative, preemptive, before, through, blocking, demand, window, jobs}
 use Rattle.model.specs.Bounds.{preemptiveEnd, start, endFrom, response, bound}
+use Rattle.model.proofs.Blocking.{no-blocking, blocking-part, blocking-most, blocking-some}
 use Rattle.model.proofs.Least.{least-at, least-none, least-is, says-same}
 use Rattle.model.proofs.Exists.{the-window, finish-range, cooperative-range, finish-cooperative, finish-preemptive}
 use Rattle.model.proofs.Responses.{response-at}
 use Rattle.model.proofs.Rounding.{before-pos}
 use Rattle.model.proofs.Rows.{period-pos, is-cooperative, is-preemptive, other-kind}
-use Rattle.demands.specs.Equations.{IsWindow, endSide, endFromSide, EndsAt, IsBound, Equations}
+use Rattle.demands.specs.Equations.{IsLower, LongestLower, IsBlocking, IsWindow, endSide, endFromSide, EndsAt, IsBound, Equations}
+
+module _ (rows : List Task) (core : GoodCore rows) (t : Task) (m : t ∈ rows) where
+  -- with a longest lower part the model's B is that less one tick
+  less-one : cooperative t ≡ true → (p : ℕ) → LongestLower rows t p → blocking rows t ≡ p - 1
+  less-one c p longest =
+      let at = longest .some in
+      let most = blocking-most rows t (p - 1) (λ u n h r q. omega (arith, longest .each u (n, h) r q)) in
+      omega (arith, most, at .4, blocking-part rows t c (at .0) (at .1 .0) (at .1 .1) (at .2))
+
+  -- it is B
+  blocking-says : IsBlocking rows t (blocking rows t)
+  unfolding cooperative
+  blocking-says =
+      record {
+        preemptive = λ k. no-blocking rows t (rw k);
+        cooperative = λ k. less-one (rw k);
+        alone = λ none. omega (arith, blocking-most rows t 0 (λ u n h. absurd (none u (n, h))));
+      }
+
+  -- and B is one number
+  one-blocking : (b : ℕ) → IsBlocking rows t b → blocking rows t ≡ b
+  one-blocking b i =
+      by-test (cooperative t)
+      (λ c. ⊎-elim (λ none. alone (λ u l. absurd (omega (arith, none u (l .0), l .1)))) (λ one. blocked c (one .0) (one .1, one .2))
+      (all-or-one (λ u. t .priority) (λ u. u .priority) rows))
+      (λ c. no-blocking rows t c ∙ sym (i .preemptive (is-preemptive t (other-kind t (core .good t m) c))))
+    where
+      alone : ((u : Task) → IsLower rows t u → ⊥) → blocking rows t ≡ b
+      alone none = blocking-says .alone none ∙ sym (i .alone none)
+
+      blocked : cooperative t ≡ true → (v : Task) → IsLower rows t v → blocking rows t ≡ b
+      blocked c v l =
+          let at = blocking-some rows t core c v (l .0) (l .1) in
+          let less = i .cooperative (is-cooperative t c) (suc (blocking rows t))
+          (record {
+            each = λ u k r q. blocking-part rows t c u (k .0) (k .1) r;
+            some = (at .0, (at .1, at .2), at .3, at .4, at .5);
+          }) in
+          omega (arith, less)
 
 -- two least solutions are the same
 one-least : (g : ℕ → ℕ) (from limit x y : ℕ) → IsLeast g from limit x → IsLeast g from limit y → x ≡ y
@@ -122,11 +164,12 @@ module _ (rows : List Task) (core : GoodCore rows) (t : Task) (m : t ∈ rows) (
           → (j : ℕ) × (j < before t L) × (f : ℕ) × EndsAt rows t r j f × (bound rows t r ≡ f - j * t .period)
       at-top j h e = (j, h, f j h, f-ends j h, e ∙ f-response j h)
 
--- the model's window and bounds are those of the equations
+-- the model's B, window and bounds are those of the equations
 pub equations : (rows : List Task) → GoodCore rows → (t : Task) → t ∈ rows → Equations rows t
 unfolding window demand before
 equations rows core t m =
     record {
+      blocks = λ b. (λ e. subst (IsBlocking rows t) e (blocking-says rows core t m), one-blocking rows core t m b);
       found = window-is rows t;
       none = (λ e. least-none (demand rows t) 1 limit e, λ n. least-is (demand rows t) 1 limit Nothing n);
       bounds = λ L w r h b. (λ e. subst (IsBound rows t L r) e (is L w r h), λ i. one-bound rows t (core .good t m) L r _ b (is L w r h) i);

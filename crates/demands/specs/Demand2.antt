@@ -1,6 +1,6 @@
--- Demand 2: bounds are the least solutions of equations 4 to 12 of the Modena paper, as document 01 sets them. A core passes
--- exactly if every task has a window up to the limit and its last bound is within its deadline. Reading a written table gives its
--- rows and times back; writing a read file gives its bytes.
+-- Demand 2: bounds are the least solutions of equations 4 to 12 of the Modena paper, as document 01 sets them, and 10 as document 02, §3,
+-- does. A core passes exactly if every task has a window up to the limit and its last bound is within its deadline. Reading a written
+-- table gives its rows and times back; writing a read file gives its bytes.
 use Prim.Native.Nat.{ℕ, _<_}
 use mathlib.Core.Path.{_≡_}
 use mathlib.Core.Logic.{_⊎_, _↔_}

@@ -1,15 +1,34 @@
--- Equations 4 to 12 as document 01 sets them, and what a bound is, said without the searches. Jobs are numbered by j from 0: k − 1.
+-- Equations 4 to 12 as document 01 sets them, 10 as document 02, §3, does, and what a bound is, said without the searches. Jobs are
+-- numbered by j from 0: k − 1.
 use Prim.Native.Nat.{ℕ, suc, _+_, _-_, _*_, _≤_, _<_}
 use mathlib.Core.Path.{_≡_}
 use mathlib.Core.Logic.{_↔_}
 use mathlib.Core.List.{List, _∷_}
-use Rattle.lists.specs.Lists.{keep, total}
+use Rattle.lists.specs.Lists.{_∈_, keep, total}
 use Rattle.model.specs.declared.Found.the-variants.{At, Nothing}
 use Rattle.model.specs.Task.{Task, part, parts, partsBefore, cost}
 use Rattle.model.specs.Least.{IsLeast, NoLeast}
 use Rattle.model.specs.Bounds.{limit, preemptive, up, down, higher, blocking, window, bound}
 
 module _ (rows : List Task) (t : Task) where
+  -- u is a lower row
+  abbrev pub IsLower : Task → Type 0
+  IsLower u = (u ∈ rows) × (u .priority < t .priority)
+
+  -- p is the longest lower part
+  pub record LongestLower (p : ℕ) : Type 0 where
+    pub each : (u : Task) → IsLower u → (r : ℕ) → r < parts u → part u r ≤ p
+    pub some : (u : Task) × IsLower u × (r : ℕ) × (r < parts u) × (part u r ≡ p)
+
+  -- b is B (10, as 02 sets it)
+  pub record IsBlocking (b : ℕ) : Type 0 where
+    -- 0 for a preemptive row
+    pub preemptive : t .kind ≡ 0 → b ≡ 0
+    -- for a cooperative row the longest lower part less one tick
+    pub cooperative : t .kind ≡ 1 → (p : ℕ) → LongestLower p → b ≡ p - 1
+    -- and 0 if there is no lower row
+    pub alone : ((u : Task) → IsLower u → ⊥) → b ≡ 0
+
   -- B plus, over this row and all higher rows, up(L/T) times C (4, 9)
   abbrev pub windowSide : ℕ → ℕ
   windowSide x = blocking rows t + total (λ u. up x (u .period) * cost u) (t ∷ higher rows t)
@@ -46,8 +65,9 @@ module _ (rows : List Task) (t : Task) where
     pub each : (j : ℕ) → j < up L (t .period) → (f : ℕ) × EndsAt r j f × (f - j * t .period ≤ b)
     pub some : (j : ℕ) × (j < up L (t .period)) × (f : ℕ) × EndsAt r j f × (b ≡ f - j * t .period)
 
-  -- the model's window and bounds, which the codes 11 and 12 speak of, are these
+  -- the model's B, window and bounds, which the codes 11 and 12 speak of, are these
   pub record Equations : Type 0 where
+    pub blocks : (b : ℕ) → (blocking rows t ≡ b) ↔ IsBlocking b
     pub found : (L : ℕ) → (window rows t ≡ At L) ↔ IsWindow L
     pub none : (window rows t ≡ Nothing) ↔ NoLeast windowSide 1 limit
     pub bounds : (L : ℕ) → IsWindow L → (r : ℕ) → r < parts t → (b : ℕ) → (bound rows t r ≡ b) ↔ IsBound L r b
