@@ -220,11 +220,13 @@ fn limit_cases() -> Vec<Named> {
     let window = |lower| two([1, 1], [half, LIMIT], &[half - 100], &[lower]);
     let sum = |period, times: &[u64]| file(&[row([9, 3, 1, 7, period, LIMIT], times)]);
     let most_times = [LIMIT; 64];
+    let no_tick_free = two([1, 1], [1, 5], &[1], &[2]);
     let up_to_limit = two([0, 0], [LIMIT, LIMIT], &[LIMIT - 1], &[1]);
     vec![
         ("windows up to 16,777,215", up_to_limit),
         ("B gives a window of 16,777,215", window(200)),
         ("B gives a window of 16,777,216", window(201)),
+        ("no tick free, and one tick of B", no_tick_free),
         ("up(L/T) times C is 2^32", sum(1, &[65_536])),
         ("the largest C", sum(LIMIT, &most_times)),
         ("the largest C, T 1", sum(1, &most_times)),

@@ -1,5 +1,5 @@
 //! The second report program: reads a task table file on standard input and prints its bounds.
-//! Written from the description alone, to be compared with the report program.
+//! Written from the documents alone, to be compared with the report program.
 //! Every search is the plain one: from its named start, again and again, until nothing changes.
 //!
 //! Build: rustc -O --edition 2021 docs/src/second.rs -o target/second
@@ -63,7 +63,7 @@ fn load(row: &Row) -> Load {
     }
 }
 
-/// Blocking B (equation 10): the longest lower part, less the tick that it had run before.
+/// Blocking B (equation 10, as document 02, §3, sets it): the longest lower part less one tick, 0 if there is no lower row.
 fn blocking(on_core: &[&Row], row: &Row) -> u64 {
     if row.kind == PREEMPTIVE {
         return 0;

@@ -102,8 +102,8 @@ fn main() -> ExitCode {
             ]),
         ),
         (
-            "many rounds: T 1 C 1 above T 5 C 1",
-            file(&[row([1, 0, 1, 2, 1, 1], &[1]), row([2, 0, 1, 1, 5, 5], &[1])]),
+            "many rounds: T 1 C 1 above T 5 C 2",
+            file(&[row([1, 0, 1, 2, 1, 1], &[1]), row([2, 0, 1, 1, 5, 5], &[2])]),
         ),
     ];
     let emulated = [report, second].map(|program| program.lines().count() > 1);

@@ -1,4 +1,4 @@
--- A row, job by job: each job stands where the one before it ended, and after the last the bounds are document 01's.
+-- A row, job by job: each job stands where the one before it ended, and after the last the bounds are the model's.
 use Prim.Native.Nat.{ℕ, zero, suc, _+_, _*_, _≤_, _<_, max}
 use mathlib.Core.Path.{_≡_, sym, ap, ap₂, _∙_}
 use mathlib.Core.List.{List}

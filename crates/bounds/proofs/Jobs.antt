@@ -1,4 +1,4 @@
--- One job, part by part: each part's end is document 01's, and the next part stands where this one ended.
+-- One job, part by part: each part's end is the model's, and the next part stands where this one ended.
 use Prim.Native.Nat.{ℕ, zero, suc, _+_, _-_, _≤_, _<_}
 use mathlib.Core.Path.{_≡_, sym, ap, subst, _∙_}
 use mathlib.Core.Bool.{Bool, true, false}

@@ -39,7 +39,7 @@ ownFirst rows i = each askedLoad (askedAt rows i ∷ keep (isWanted (Above (aske
 abbrev pub longestBelow : ℕ → List Asked → ℕ
 longestBelow priority rows = largest (map (λ a. a .longest) (keep (λ a. ltb (a .priority) priority) rows))
 
--- the blocking of row i: only a cooperative row has one, and 0 - 1 is 0
+-- the blocking of row i: for a cooperative row the longest part below it less one tick, where 0 - 1 is 0; else 0
 abbrev pub blockingIn : List Asked → ℕ → ℕ
 blockingIn rows i = pick (eqb (askedAt rows i .kind) 1) (longestBelow (askedAt rows i .priority) rows - 1) 0
 

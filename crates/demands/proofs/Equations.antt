@@ -14,7 +14,7 @@ use Rattle.model.specs.declared.Found.the-variants.{At, Nothing}
 use Rattle.model.specs.Task.{Task, part, parts}
 use Rattle.model.specs.Rows.{GoodTask, GoodCore}
 use Rattle.model.specs.Least.{IsLeast, value, maxBelow}
-use Rattle.model.specs.Bounds.{limit, cooperative, preemptive, before, through, blocking, demand, window, jobs}
+use Rattle.model.specs.Bounds.{limit, cooperative, before, through, blocking, demand, window, jobs}
 use Rattle.model.specs.Bounds.{preemptiveEnd, start, endFrom, response, bound}
 use Rattle.model.proofs.Blocking.{no-blocking, blocking-part, blocking-most, blocking-some}
 use Rattle.model.proofs.Least.{least-at, least-none, least-is, says-same}
@@ -24,10 +24,10 @@ use Rattle.model.proofs.Rounding.{before-pos}
 use Rattle.model.proofs.Rows.{period-pos, is-cooperative, is-preemptive, other-kind}
 use Rattle.demands.specs.Equations.{IsLower, LongestLower, IsBlocking, IsWindow, endSide, endFromSide, EndsAt, IsBound, Equations}
 
-module _ (rows : List Task) (core : GoodCore rows) (t : Task) (m : t ∈ rows) where
+module _ (rows : List Task) (t : Task) where
   -- with a longest lower part the model's B is that less one tick
-  less-one : cooperative t ≡ true → (p : ℕ) → LongestLower rows t p → blocking rows t ≡ p - 1
-  less-one c p longest =
+  of-longest : cooperative t ≡ true → (p : ℕ) → LongestLower rows t p → blocking rows t ≡ p - 1
+  of-longest c p longest =
       let at = longest .some in
       let most = blocking-most rows t (p - 1) (λ u n h r q. omega (arith, longest .each u (n, h) r q)) in
       omega (arith, most, at .4, blocking-part rows t c (at .0) (at .1 .0) (at .1 .1) (at .2))
@@ -38,10 +38,11 @@ module _ (rows : List Task) (core : GoodCore rows) (t : Task) (m : t ∈ rows) w
   blocking-says =
       record {
         preemptive = λ k. no-blocking rows t (rw k);
-        cooperative = λ k. less-one (rw k);
+        cooperative = λ k. of-longest (rw k);
         alone = λ none. omega (arith, blocking-most rows t 0 (λ u n h. absurd (none u (n, h))));
       }
 
+module _ (rows : List Task) (core : GoodCore rows) (t : Task) (m : t ∈ rows) where
   -- and B is one number
   one-blocking : (b : ℕ) → IsBlocking rows t b → blocking rows t ≡ b
   one-blocking b i =
@@ -51,7 +52,7 @@ module _ (rows : List Task) (core : GoodCore rows) (t : Task) (m : t ∈ rows) w
       (λ c. no-blocking rows t c ∙ sym (i .preemptive (is-preemptive t (other-kind t (core .good t m) c))))
     where
       alone : ((u : Task) → IsLower rows t u → ⊥) → blocking rows t ≡ b
-      alone none = blocking-says .alone none ∙ sym (i .alone none)
+      alone none = blocking-says rows t .alone none ∙ sym (i .alone none)
 
       blocked : cooperative t ≡ true → (v : Task) → IsLower rows t v → blocking rows t ≡ b
       blocked c v l =
@@ -169,7 +170,7 @@ pub equations : (rows : List Task) → GoodCore rows → (t : Task) → t ∈ ro
 unfolding window demand before
 equations rows core t m =
     record {
-      blocks = λ b. (λ e. subst (IsBlocking rows t) e (blocking-says rows core t m), one-blocking rows core t m b);
+      blocks = λ b. (λ e. subst (IsBlocking rows t) e (blocking-says rows t), one-blocking rows core t m b);
       found = window-is rows t;
       none = (λ e. least-none (demand rows t) 1 limit e, λ n. least-is (demand rows t) 1 limit Nothing n);
       bounds = λ L w r h b. (λ e. subst (IsBound rows t L r) e (is L w r h), λ i. one-bound rows t (core .good t m) L r _ b (is L w r h) i);

@@ -51,7 +51,7 @@ judged2 = rw (none41, window43)
 
 -- core 0
 answer0 : Analyses bytesB 0 (0 ∷ 0 ∷ 0 ∷ 0 ∷ 0 ∷ 71 ∷ 72 ∷ []) (record { verdict = C.Good; count = 5 })
-    (2 ∷ 22 ∷ 26 ∷ 19 ∷ 37 ∷ 71 ∷ 72 ∷ [])
+    (2 ∷ 24 ∷ 30 ∷ 19 ∷ 39 ∷ 71 ∷ 72 ∷ [])
 unfolding bounds-found core-judged answer-given
 answer0 = rw reads (record { answer = refl; left = refl })
 

@@ -25,7 +25,7 @@ task22 = rowB 22 0 1 40 34 32 (3 ∷ 4 ∷ [])
 
 -- core 0: the lower cooperative row
 abbrev pub task23 : Task
-task23 = rowB 23 0 1 20 60 55 (8 ∷ 16 ∷ [])
+task23 = rowB 23 0 1 20 60 55 (8 ∷ 18 ∷ [])
 
 -- core 1: a preemptive row above another
 abbrev pub task31 : Task
@@ -62,7 +62,7 @@ bytesB =
     ∷ 22 ∷ 0 ∷ 1 ∷ 40 ∷ 34 ∷ 32 ∷ 2 ∷ 3 ∷ 4
     ∷ 33 ∷ 1 ∷ 0 ∷ 50 ∷ 17 ∷ 14 ∷ 1 ∷ 5
     ∷ 43 ∷ 2 ∷ 0 ∷ 77 ∷ 25 ∷ 24 ∷ 1 ∷ 1
-    ∷ 23 ∷ 0 ∷ 1 ∷ 20 ∷ 60 ∷ 55 ∷ 2 ∷ 8 ∷ 16
+    ∷ 23 ∷ 0 ∷ 1 ∷ 20 ∷ 60 ∷ 55 ∷ 2 ∷ 8 ∷ 18
     ∷ []
 
 -- core task runnable bound deadline
@@ -79,21 +79,21 @@ headerB =
 abbrev pub line21Part1 : List ℕ
 line21Part1 = 48 ∷ 32 ∷ 50 ∷ 49 ∷ 32 ∷ 49 ∷ 32 ∷ 50 ∷ 32 ∷ 57 ∷ 10 ∷ []
 
--- 0 22 1 22 32
+-- 0 22 1 24 32
 abbrev pub line22Part1 : List ℕ
-line22Part1 = 48 ∷ 32 ∷ 50 ∷ 50 ∷ 32 ∷ 49 ∷ 32 ∷ 50 ∷ 50 ∷ 32 ∷ 51 ∷ 50 ∷ 10 ∷ []
+line22Part1 = 48 ∷ 32 ∷ 50 ∷ 50 ∷ 32 ∷ 49 ∷ 32 ∷ 50 ∷ 52 ∷ 32 ∷ 51 ∷ 50 ∷ 10 ∷ []
 
--- 0 22 2 26 32
+-- 0 22 2 30 32
 abbrev pub line22Part2 : List ℕ
-line22Part2 = 48 ∷ 32 ∷ 50 ∷ 50 ∷ 32 ∷ 50 ∷ 32 ∷ 50 ∷ 54 ∷ 32 ∷ 51 ∷ 50 ∷ 10 ∷ []
+line22Part2 = 48 ∷ 32 ∷ 50 ∷ 50 ∷ 32 ∷ 50 ∷ 32 ∷ 51 ∷ 48 ∷ 32 ∷ 51 ∷ 50 ∷ 10 ∷ []
 
 -- 0 23 1 19 55
 abbrev pub line23Part1 : List ℕ
 line23Part1 = 48 ∷ 32 ∷ 50 ∷ 51 ∷ 32 ∷ 49 ∷ 32 ∷ 49 ∷ 57 ∷ 32 ∷ 53 ∷ 53 ∷ 10 ∷ []
 
--- 0 23 2 37 55
+-- 0 23 2 39 55
 abbrev pub line23Part2 : List ℕ
-line23Part2 = 48 ∷ 32 ∷ 50 ∷ 51 ∷ 32 ∷ 50 ∷ 32 ∷ 51 ∷ 55 ∷ 32 ∷ 53 ∷ 53 ∷ 10 ∷ []
+line23Part2 = 48 ∷ 32 ∷ 50 ∷ 51 ∷ 32 ∷ 50 ∷ 32 ∷ 51 ∷ 57 ∷ 32 ∷ 53 ∷ 53 ∷ 10 ∷ []
 
 -- core 0 code 0 number 0
 abbrev pub coreLine0 : List ℕ
@@ -190,7 +190,7 @@ pub record SampleB : Type 0 where
   pub reads : decode bytesB ≡ go tasksB 74
   -- core 0 passes
   pub core0 : Analyses bytesB 0 (0 ∷ 0 ∷ 0 ∷ 0 ∷ 0 ∷ 71 ∷ 72 ∷ []) (record { verdict = C.Good; count = 5 })
-      (2 ∷ 22 ∷ 26 ∷ 19 ∷ 37 ∷ 71 ∷ 72 ∷ [])
+      (2 ∷ 24 ∷ 30 ∷ 19 ∷ 39 ∷ 71 ∷ 72 ∷ [])
   -- core 1 misses a deadline: every bound is written
   pub core1 : Analyses bytesB 1 (0 ∷ 0 ∷ 71 ∷ 72 ∷ []) (record { verdict = C.Missed 33; count = 2 }) (6 ∷ 17 ∷ 71 ∷ 72 ∷ [])
   -- core 2 has a row without a window: nothing is written

@@ -1,5 +1,5 @@
--- The samples of document 01 that are marked P, with the values that document 02, §3, gives them, together: those on the bounds, those on
--- bytes, and Set A's answer.
+-- The samples of document 01 that are marked P, with the values of document 02, §3, where it gives new ones, together: those on the
+-- bounds, those on bytes, and Set A's answer.
 use Prim.Native.Nat.{ℕ}
 use mathlib.Core.Path.{_≡_}
 use mathlib.Core.List.{List, [], _∷_}

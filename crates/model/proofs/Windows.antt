@@ -18,16 +18,10 @@ use Rattle.model.specs.Bounds.{limit, cooperative, before, higher, block
 use Rattle.model.proofs.Climb.{least-exists}
 use Rattle.model.proofs.Rounding.{before-pos}
 use Rattle.model.proofs.Rows.{period-pos, preemptive-higher, other-kind, same-row}
-use Rattle.model.proofs.Parts.{parts-suc, parts-cost, cost-pos}
+use Rattle.model.proofs.Parts.{part-fits, cost-pos}
 use Rattle.model.proofs.Blocking.{no-blocking, blocking-part, blocking-most}
 use Rattle.model.proofs.Demand.{work, demand-is, demand-mono, demand-cost}
 use Rattle.model.proofs.Exists.{the-window}
-
--- each part of a row is within what the row asks for
-part-asked : (t : Task) → 0 < t .period → (x : ℕ) → 0 < x → (r : ℕ) → part t r ≤ before t x * cost t
-part-asked t p x h r =
-    let once : 1 * cost t ≤ before t x * cost t = mul-le-mul-right (cost t) (before-pos t p x h) in
-    omega (arith, parts-suc t r, parts-cost t (suc r))
 
 module _ (rows : List Task) (core : GoodCore rows) (t : Task) (m : t ∈ rows) (L : ℕ) (w : window rows t ≡ At L)
     (u : Task) (n : u ∈ rows) (above : t .priority < u .priority) where
@@ -79,7 +73,9 @@ module _ (rows : List Task) (core : GoodCore rows) (t : Task) (m : t ∈ rows) (
       (either (v .priority) (t .priority))
     where
       within : (x : Task) → x ∈ rows → part x r ≤ before x L * cost x
-      within x l = part-asked x (period-pos rows core x l) L positive r
+      within x l =
+          let once : 1 * cost x ≤ before x L * cost x = mul-le-mul-right (cost x) (before-pos x (period-pos rows core x l) L positive) in
+          omega (arith, part-fits x (core .good x l) r)
 
   -- the upper row asks for no more than L
   ends : demand rows u L ≤ L

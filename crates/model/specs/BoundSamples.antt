@@ -1,4 +1,5 @@
--- The samples of document 01 on the bounds that are marked P, with the values that document 02, §3, gives them, as one statement.
+-- The samples of document 01 on the bounds that are marked P, with the values of document 02, §3, where it gives new ones, and B beside
+-- them, as one statement.
 use Prim.Native.Nat.{ℕ, _+_, _-_, _*_}
 use mathlib.Core.Path.{_≡_}
 use mathlib.Core.List.{List, [], _∷_}

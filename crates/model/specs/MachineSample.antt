@@ -35,7 +35,7 @@ together = periodic (λ task. 0)
 abbrev pub second-later : Run
 second-later = periodic (λ task. pick (eqb (task .id) 2) 2 0)
 
--- the same, but tasks 1 and 2 first released at tick 3, when task 3's second part has run one of its three ticks
+-- task 3 released at tick 0, tasks 1 and 2 at tick 3, when task 3's second part has run one of its three ticks
 abbrev pub third-begun : Run
 third-begun = periodic (λ task. pick (eqb (task .id) 3) 0 3)
 
@@ -59,7 +59,8 @@ pub record MachineSample : Type 0 where
   pub job-done : standAt (setA 20) together 10 (a3 20) ≡ record { done = 1; at = 0; ran = 0 }
   -- task 2 is released while task 3's first part is open: the part goes on, then task 2 comes before task 3's second part
   pub later-second : ranIn (setA 20) second-later 9 ≡ 1 ∷ 3 ∷ 3 ∷ 2 ∷ 2 ∷ 1 ∷ 2 ∷ 3 ∷ 3 ∷ []
-  -- task 2, released at tick 3, waits for what is left of task 3's second part; its own end before ticks 7 and 10, at their bounds 4 and 7
+  -- task 2, released at tick 3, waits for what is left of task 3's second part; its own parts end before ticks 7 and 10, at their
+  -- bounds 4 and 7
   pub third-blocks : ranIn (setA 20) third-begun 10 ≡ 3 ∷ 3 ∷ 3 ∷ 1 ∷ 3 ∷ 3 ∷ 2 ∷ 2 ∷ 1 ∷ 2 ∷ []
   -- T 70 C 26 above T 100 C 62: before tick 101 two jobs of the lower row are released and none is done; the first ends at 114,
   -- and the second then begins

@@ -1,4 +1,4 @@
--- Set A's report is the one that document 01 prints, by computation. Assumes nothing.
+-- Set A's report is as stated, by computation. Assumes nothing.
 use mathlib.Core.Path.{_≡_, refl, ap, _∙_}
 use Rattle.model.specs.BoundSamples.{setA}
 use Rattle.fields.specs.Stepping.{go}

@@ -1,4 +1,4 @@
--- Document 01, "Set A and other samples": Set A as a file, and the report that is printed for it.
+-- Document 01, "Set A and other samples": Set A as a file, and the report that is printed for it, with the bounds of document 02, §3.
 use Prim.Native.Nat.{ℕ}
 use mathlib.Core.Path.{_≡_}
 use mathlib.Core.List.{List, [], _∷_, _++_}

@@ -1,5 +1,5 @@
--- `cores::blocking_of` meets its contract, by the row's type and by whether a row is below it. Assumes nothing.
-use Prim.Native.Nat.{ℕ, _-_}
+-- `cores::blocking_of` meets its contract, by the row's type and by whether there is a lower part. Assumes nothing.
+use Prim.Native.Nat.{_-_}
 use native.Mathlib.Omega.{arith}
 use borrow.Author.Needs.{needs}
 use borrow.Author.Tests.{eq-eqb, ne-eqb}
