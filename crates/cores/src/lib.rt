@@ -194,7 +194,7 @@ fn longest_below(asked: [Asked; 64], count: usize, priority: u32) -> u32
     most
 }
 
-// The blocking of row `own`: for a cooperative row the longest lower part less the tick that it had run before, 0 without any; else 0.
+// The blocking of row `own`: the longest lower part less the tick that it had run before; 0 without one, and for a preemptive row.
 pub fn blocking_of(asked: [Asked; 64], count: usize, own: usize) -> u64
     requires { ⌜ (own < count) × (count ≤ 64) ⌝ }
     ensures { λ r. ⌜ r ≡ blockingIn (take count asked) own ⌝ }

@@ -59,7 +59,7 @@ module _ (rows : List Task) (core : GoodCore rows) (t : Task) (m : t ∈ rows) (
   positive : 0 < L
   positive = the-window rows core t m L w .above
 
-  -- over a cooperative row, with a part of a lower row
+  -- over a cooperative row each part below the upper row is no longer than what L leaves it, and a tick
   blocked : cooperative t ≡ true → (v : Task) → v ∈ rows → v .priority < u .priority → (r : ℕ)
       → part v r ≤ suc (L - (before u L * cost u + work (higher rows u) L))
   blocked c v k b r =
