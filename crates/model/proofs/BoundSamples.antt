@@ -12,7 +12,7 @@ use Rattle.model.specs.Bounds.{demand, window, jobs, preemptiveEnd, star
 use Rattle.model.specs.Bounds.{above, highest, judgedBy, coreVerdict, passes, noWindow}
 use Rattle.model.specs.BoundSamples.{BoundSamples, most, one, d1, d2, full, printedStart, printedEnd}
 use Rattle.model.proofs.Demand.{window-from-cost, end-from-own}
-use Rattle.model.proofs.Least.{least-never}
+use Rattle.model.proofs.Least.{least-is, least-never}
 use Rattle.model.proofs.Rounding.{before-is, before-pos, up-one}
 
 -- what computes on these samples: an answer that says `unfolding rows` opens the right side of the equations
@@ -68,7 +68,9 @@ overC = rw windowO
 -- the upper of two rows that ask for more than every tick
 windowD1 : window full d1 ≡ At 1
 unfolding sides window
-windowD1 = refl
+windowD1 =
+    least-is (demand full d1) 1 limit (At 1)
+    (record { above = omega arith; within = omega arith; solves = refl; first = λ z a b e. omega arith })
 
 -- the lower of them
 windowD2 : window full d2 ≡ Nothing

@@ -1,5 +1,6 @@
 -- What delays a part that has begun, in the machine and in the equations: a higher preemptive task does, a higher cooperative one
--- does not, but waits for what is left of it. The lower row is cooperative, T 20 C 5; the higher one, T 3 C 1, is of either kind.
+-- does not, but waits for what is left of it. The lower row is cooperative, T 20, with parts of 5 and 2 ticks; the higher one, T 3 C 1,
+-- is of either kind.
 use Prim.Native.Nat.{ℕ}
 use mathlib.Core.Path.{_≡_}
 use mathlib.Core.List.{List, [], _∷_}
@@ -18,7 +19,7 @@ e1 kind = row 1 kind 2 3 3 (1 ∷ [])
 
 -- the lower row
 abbrev pub e2 : Task
-e2 = row 2 1 1 20 20 (5 ∷ [])
+e2 = row 2 1 1 20 20 (5 ∷ 2 ∷ [])
 
 -- the lower row under the higher one
 abbrev pub under : ℕ → List Task
@@ -34,8 +35,8 @@ pub record BegunSample : Type 0 where
   pub runs-on : ranIn (under 1) together 7 ≡ 1 ∷ 2 ∷ 2 ∷ 2 ∷ 2 ∷ 2 ∷ 1 ∷ []
   pub ends-on : (start (under 1) e2 0 0 ≡ At 1) × (finish (under 1) e2 0 0 ≡ At 6)
   -- under a preemptive row it stands still in ticks 3 and 6, and ends before tick 8
-  pub stops : ranIn (under 0) together 9 ≡ 1 ∷ 2 ∷ 2 ∷ 1 ∷ 2 ∷ 2 ∷ 1 ∷ 2 ∷ 0 ∷ []
+  pub stops : ranIn (under 0) together 8 ≡ 1 ∷ 2 ∷ 2 ∷ 1 ∷ 2 ∷ 2 ∷ 1 ∷ 2 ∷ []
   pub ends-late : (start (under 0) e2 0 0 ≡ At 1) × (finish (under 0) e2 0 0 ≡ At 8)
-  -- a cooperative row that is released a tick after the part has begun waits for its other four ticks, and ends 5 after its release
+  -- a cooperative row that is released a tick after the part has begun waits for its other four ticks, and for no other part
   pub waits : ranIn (under 1) lower-begun 6 ≡ 2 ∷ 2 ∷ 2 ∷ 2 ∷ 2 ∷ 1 ∷ []
   pub ends-behind : (blocking (under 1) (e1 1) ≡ 4) × (start (under 1) (e1 1) 0 0 ≡ At 4) × (finish (under 1) (e1 1) 0 0 ≡ At 5)
