@@ -38,7 +38,7 @@ module _ (rows : List Task) (t : Task) where
   blocking-says =
       record {
         preemptive = λ k. no-blocking rows t (rw k);
-        cooperative = λ k. of-longest (rw k);
+        cooperative = λ k p longest. omega (arith, of-longest (rw k) p longest);
         alone = λ none. omega (arith, blocking-most rows t 0 (λ u n h. absurd (none u (n, h))));
       }
 

@@ -10,6 +10,7 @@ begun-sample =
       runs-on = refl;
       ends-on = (refl, refl);
       stops = refl;
+      next-begins = refl;
       ends-late = (refl, refl);
       waits = refl;
       ends-behind = (refl, refl, refl);

@@ -9,7 +9,7 @@ use Rattle.lists.specs.Lists.{pick}
 use Rattle.model.specs.declared.Found.the-variants.{At}
 use Rattle.model.specs.Task.{Task}
 use Rattle.model.specs.Bounds.{blocking, start, finish}
-use Rattle.model.specs.Machine.{Run}
+use Rattle.model.specs.Machine.{Run, standAt}
 use Rattle.model.specs.BoundSamples.{row}
 use Rattle.model.specs.MachineSample.{periodic, ranIn, together}
 
@@ -34,8 +34,9 @@ pub record BegunSample : Type 0 where
   -- under a cooperative row the part runs on from tick 1 to its end before tick 6, past the release at tick 3
   pub runs-on : ranIn (under 1) together 7 ≡ 1 ∷ 2 ∷ 2 ∷ 2 ∷ 2 ∷ 2 ∷ 1 ∷ []
   pub ends-on : (start (under 1) e2 0 0 ≡ At 1) × (finish (under 1) e2 0 0 ≡ At 6)
-  -- under a preemptive row it stands still in ticks 3 and 6, and ends before tick 8
-  pub stops : ranIn (under 0) together 8 ≡ 1 ∷ 2 ∷ 2 ∷ 1 ∷ 2 ∷ 2 ∷ 1 ∷ 2 ∷ []
+  -- under a preemptive row it stands still in ticks 3 and 6, and ends before tick 8, in which the next part begins
+  pub stops : ranIn (under 0) together 9 ≡ 1 ∷ 2 ∷ 2 ∷ 1 ∷ 2 ∷ 2 ∷ 1 ∷ 2 ∷ 2 ∷ []
+  pub next-begins : standAt (under 0) together 8 e2 ≡ record { done = 0; at = 1; ran = 0 }
   pub ends-late : (start (under 0) e2 0 0 ≡ At 1) × (finish (under 0) e2 0 0 ≡ At 8)
   -- a cooperative row that is released a tick after the part has begun waits for its other four ticks, and for no other part
   pub waits : ranIn (under 1) lower-begun 6 ≡ 2 ∷ 2 ∷ 2 ∷ 2 ∷ 2 ∷ 1 ∷ []
