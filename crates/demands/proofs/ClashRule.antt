@@ -10,7 +10,7 @@ use mathlib.Core.List.{List, [], _∷_, _++_, append-assoc, append-nil}
 use lib.ListN.{length, take}
 use lib.Dec.{eqb, ltb}
 use Rattle.lists.specs.Lists.{any, Place}
-use Rattle.lists.proofs.Tests.{by-test, never, either, not-below}
+use Rattle.lists.proofs.Tests.{by-test, never, both, either, not-below}
 use Rattle.lists.proofs.Places.{place-below, place-some}
 use Rattle.table.specs.declared.Row.{Row}
 use Rattle.table.specs.declared.Rule.{Rule}
@@ -23,11 +23,6 @@ use Rattle.table.proofs.ReadingCodes.{RefusedReading}
 use Rattle.demands.specs.Rules.{CooperativeAbove, Breaks, Clashes, First, None, ClashRule}
 
 -- ---- the tests are the words
-
--- both tests pass
-both : (a b : Bool) → a && b ≡ true → (a ≡ true) × (b ≡ true)
-both true b e = (refl, e)
-both false b e = absurd (never e refl)
 
 -- one of them passes
 one-of : (a b : Bool) → a || b ≡ true → (a ≡ true) ⊎ (b ≡ true)

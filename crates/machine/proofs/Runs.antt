@@ -1,23 +1,18 @@
 -- Which task a tick runs, and why: the rule of `runs`, told by orders instead of tests. From what `highest` finds.
 use Prim.Native.Nat.{ℕ, suc, _≤_, _<_}
-use mathlib.Core.Path.{_≡_, refl}
+use mathlib.Core.Path.{_≡_}
 use mathlib.Core.List.{List}
 use mathlib.Core.Option.{Option, some, none}
-use mathlib.Core.Bool.{Bool, true, false, _&&_}
-use native.Mathlib.Omega.{arith}
+use mathlib.Core.Bool.{Bool, true, _&&_}
 use borrow.Author.Tests.{ltb-true, eqb-true, eq-eqb, lt-ltb}
 use Rattle.lists.specs.Lists.{_∈_}
+use Rattle.lists.proofs.Tests.{both}
 use Rattle.model.specs.Task.{Task}
 use Rattle.model.specs.Bounds.{preemptive, cooperative, highest}
 use Rattle.model.specs.Machine.{Run, Stand, released, pending, pendingPreemptive, pendingCooperative, openCooperative, _ifNone_, runs}
 use Rattle.model.proofs.Verdict.{Best, highest-best}
 
--- two tests that pass together pass each
-both-pass : (a b : Bool) → (a && b) ≡ true → (a ≡ true) × (b ≡ true)
-both-pass true b e = (refl, e)
-both-pass false b e = let z : _≡_ {A = ℕ} 0 1 = cc in absurd (omega arith)
-
--- and the other way round
+-- two tests that pass each pass together
 pass-both : (a b : Bool) → a ≡ true → b ≡ true → (a && b) ≡ true
 pass-both a b p q = rw (p, q)
 
@@ -48,7 +43,7 @@ module _ (rows : List Task) (run : Run) (t : ℕ) (now : Task → Stand) where
   -- a pending preemptive task waits
   preemptive-waits : (u : Task) → pendingPreemptive run t now u ≡ true → Waits 0 u
   unfolding pendingPreemptive preemptive pending
-  preemptive-waits u e = let w = both-pass _ _ e in (eqb-true _ _ (w .0), ltb-true _ _ (w .1))
+  preemptive-waits u e = let w = both _ _ e in (eqb-true _ _ (w .0), ltb-true _ _ (w .1))
 
   -- and the other way round
   waits-preemptive : (u : Task) → Waits 0 u → pendingPreemptive run t now u ≡ true
@@ -58,7 +53,7 @@ module _ (rows : List Task) (run : Run) (t : ℕ) (now : Task → Stand) where
   -- a pending cooperative task waits
   cooperative-waits : (u : Task) → pendingCooperative run t now u ≡ true → Waits 1 u
   unfolding pendingCooperative cooperative pending
-  cooperative-waits u e = let w = both-pass _ _ e in (eqb-true _ _ (w .0), ltb-true _ _ (w .1))
+  cooperative-waits u e = let w = both _ _ e in (eqb-true _ _ (w .0), ltb-true _ _ (w .1))
 
   -- and the other way round
   waits-cooperative : (u : Task) → Waits 1 u → pendingCooperative run t now u ≡ true
@@ -68,7 +63,7 @@ module _ (rows : List Task) (run : Run) (t : ℕ) (now : Task → Stand) where
   -- an open cooperative part is open
   cooperative-open : (u : Task) → openCooperative now u ≡ true → Open u
   unfolding openCooperative cooperative
-  cooperative-open u e = let w = both-pass _ _ e in (eqb-true _ _ (w .0), ltb-true _ _ (w .1))
+  cooperative-open u e = let w = both _ _ e in (eqb-true _ _ (w .0), ltb-true _ _ (w .1))
 
   -- and the other way round
   open-cooperative : (u : Task) → Open u → openCooperative now u ≡ true
