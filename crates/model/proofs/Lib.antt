@@ -19,3 +19,4 @@ pub mod BegunSample
 pub mod Cores
 pub mod Highest
 pub mod Ranges
+pub mod Chains

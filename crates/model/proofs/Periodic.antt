@@ -1,10 +1,11 @@
--- A periodic run is allowed: it releases at most one job of a task in a tick, and only whole periods after the first tick.
+-- A periodic run is allowed: it releases at most one job of a task in a tick, and only whole periods after the first tick. In each of
+-- these ticks it does release one.
 use Prim.Native.Nat.{ℕ, suc, _+_, _-_, _*_, _/_, _≤_, _<_}
-use mathlib.Core.Path.{_≡_}
+use mathlib.Core.Path.{_≡_, ap, _∙_}
 use native.Mathlib.Omega.{arith}
-use native.Mathlib.Nat.{suc-mul, mul-le-mul-right}
+use native.Mathlib.Nat.{le-refl, suc-mul, mul-le-mul-right, mul-div-cancel}
 use lib.Dec.{eqb}
-use borrow.Author.Tests.{eqb-true}
+use borrow.Author.Tests.{eqb-true, eq-eqb}
 use Rattle.lists.proofs.Tests.{by-test, not-below}
 use Rattle.model.specs.Task.{Task}
 use Rattle.model.specs.Machine.{released, ReleasedIn}
@@ -47,6 +48,16 @@ module _ (first : Task → ℕ) (task : Task) where
       not-below (suc (periods t)) (periods u)
       (λ le. omega (arith, mul-le-mul-right {m = periods u} {n = periods t} (task .period) (omega arith))) in
       omega (arith, mul-le-mul-right (task .period) more, suc-mul (periods t) (task .period))
+
+  -- whole periods after the first tick a job is released
+  pub released-then : (n s : ℕ) → 0 < task .period → first task + n * task .period ≡ s
+      → ReleasedIn (periodic first) task (released (periodic first) task s) s
+  unfolding periodic released periods
+  released-then n s positive at-s =
+      let count : periods s ≡ n = ap (λ (d : ℕ). d / task .period) (omega arith) ∙ mul-div-cancel n positive in
+      let whole : first task + periods s * task .period ≡ s = ap (λ (k : ℕ). first task + k * task .period) count ∙ at-s in
+      let one : periodic first .release task s ≡ 1 = rw (eq-eqb _ _ whole) in
+      record { not-before = le-refl _; by-then = omega arith }
 
 -- every periodic run of a good core is allowed
 pub periodic-allowed : PeriodicAllowed

@@ -7,3 +7,4 @@ pub mod BoundSamples
 pub mod Machine
 pub mod MachineSample
 pub mod BegunSample
+pub mod Chains
