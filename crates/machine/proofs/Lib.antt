@@ -10,3 +10,4 @@ pub mod Quiet
 pub mod Job
 pub mod Ends
 pub mod NoRunIsLater
+pub mod Passing

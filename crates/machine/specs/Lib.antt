@@ -1,1 +1,2 @@
 pub mod NoRunIsLater
+pub mod Passing
