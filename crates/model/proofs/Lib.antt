@@ -19,4 +19,5 @@ pub mod BegunSample
 pub mod Cores
 pub mod Highest
 pub mod Ranges
+pub mod ChainSample
 pub mod Chains

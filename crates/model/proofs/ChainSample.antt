@@ -1,0 +1,21 @@
+-- The delays along the sample's chains: from the bounds of Set A, by adding up.
+use mathlib.Core.Path.{refl}
+use native.Mathlib.Omega.{arith}
+use Rattle.lists.specs.Lists.{keep, total}
+use Rattle.model.specs.Bounds.{onCore}
+use Rattle.model.specs.Chains.{sameJob, counts, counting, boundOf, stepDelay, delay}
+use Rattle.model.specs.ChainSample.{ChainSample}
+use Rattle.model.proofs.BoundSamples.{samples}
+
+pub chain-sample : ChainSample
+unfolding keep total onCore sameJob counts counting boundOf stepDelay delay
+chain-sample =
+    let r1 = samples .boundsA1 in
+    let r2 = samples .boundsA2 in
+    record {
+      later-counts = refl;
+      in-order = omega (arith, r1, r2 .1);
+      twice = omega (arith, r2 .1);
+      falling = omega (arith, r2 .0, r2 .1);
+      between = omega (arith, r1, r2 .0, r2 .1);
+    }
