@@ -11,3 +11,4 @@ pub mod Job
 pub mod Ends
 pub mod NoRunIsLater
 pub mod Passing
+pub mod PassingSample

@@ -1,2 +1,3 @@
 pub mod NoRunIsLater
 pub mod Passing
+pub mod PassingSample
