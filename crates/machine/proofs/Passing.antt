@@ -72,7 +72,7 @@ module _ (tasks : List Task) (links : List Link) (steps : (l : Link) → l ∈ l
   taken l ls i new w v since by brought =
       let r = recurs l i w since in
       let b = brought (r .0) (r .1) (omega (arith, r .2)) (r .4) (omega (arith, r .3)) in
-      next new (r .2) (r .4) (b .1) (b .2)
+      next {u = w} {t = r .1} new (omega (arith, r .2)) (r .4) (b .1) (b .2)
 
   -- the last step: period and bound count
   last : (l : Link) (v : ℕ) → l ∈ links → Brought l [] v

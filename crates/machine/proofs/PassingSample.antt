@@ -86,10 +86,11 @@ second-late = not-ended (stepAt a2 1) 14 (lit≤ tt) (lit≤ tt)
 -- not sooner: neither job is its task's first
 not-by-13 : Passes (setA 20) (λ core. together) nobody chainA 1 13 → ⊥
 unfolding machine-ticks sameJob
-not-by-13 (next {e = x} new le r end (next {t = t} new′ le′ r′ end′ (same {e = z} one le″ end″ (all le‴)))) =
-    let one-done : 6 ≤ x = first-late _ x (not-first a1 (lit≤ tt) _ _ le r) end in
-    let after : 1 ≤ t = omega arith in
-    let two-done : 14 ≤ z = second-late _ z (not-first a2 (lit≤ tt) _ t after r′) end″ in
+not-by-13 (next {t = s} {e = x} new le r end (next {t = t} new′ le′ r′ end′ (same {e = y} one le″ end″ (all le‴)))) =
+    let after : 1 ≤ s = omega arith in
+    let first-done : 6 ≤ x = first-late _ x (not-first a1 (lit≤ tt) _ s after r) end in
+    let after′ : 1 ≤ t = omega arith in
+    let second-done : 14 ≤ y = second-late _ y (not-first a2 (lit≤ tt) _ t after′ r′) end″ in
     omega arith
 not-by-13 (next new le r end (next new′ le′ r′ end′ (next new″ le″ r″ end″ rest))) = absurd (never refl new″)
 not-by-13 (next new le r end (same one le′ end′ rest)) = absurd (never one refl)

@@ -14,8 +14,8 @@ chain-sample =
     let r2 = samples .boundsA2 in
     record {
       later-counts = refl;
-      in-order = omega (arith, r1, r2 .1);
-      twice = omega (arith, r2 .1);
-      falling = omega (arith, r2 .0, r2 .1);
-      between = omega (arith, r1, r2 .0, r2 .1);
+      in-order = omega arith;
+      twice = omega arith;
+      falling = omega arith;
+      between = omega arith;
     }
