@@ -1,5 +1,5 @@
--- No value is later than the delay along its chain. From demand 3: the job that a step's task releases within a period ends the step's
--- part within its bound, and each earlier part with it.
+-- No value is later than the delay along its chain, and periodic runs release as this asks. From demand 3: the job that a step's task
+-- releases within a period ends the step's part within its bound, and each earlier part with it.
 use Prim.Native.Nat.{ℕ, _+_, _-_, _*_, _≤_, _<_}
 use mathlib.Core.Path.{_≡_, refl, sym, ap, subst}
 use mathlib.Core.Bool.{true, false}
