@@ -10,13 +10,8 @@ use Rattle.model.specs.Task.{Task}
 use Rattle.model.specs.Least.{found, value, Says}
 use Rattle.model.specs.Bounds.{limit, demand, window}
 use Rattle.model.proofs.Least.{least-says}
+use Rattle.model.proofs.Most.{value-most}
 use Rattle.analysis.specs.Promises.{windowLength, lacks}
-
--- what is found lies within the limit
-pub value-most : (g : ℕ → ℕ) (from most : ℕ) (a : Found) → Says g from most a → value a ≤ most
-unfolding value
-value-most g from most (At x) s = s .within
-value-most g from most Nothing s = omega arith
 
 module _ (rows : List Task) (t : Task) where
   -- what the window says

@@ -2,10 +2,12 @@
 use Prim.Native.Nat.{ℕ, zero, suc, _+_, _<_}
 use native.Mathlib.Nat.{zero-add, suc-add, add-assoc}
 use native.Mathlib.Omega.{arith}
-use mathlib.Core.Path.{refl}
+use mathlib.Core.Path.{_≡_, refl}
+use mathlib.Core.Bool.{Bool, true}
 use mathlib.Core.List.{List, [], _∷_, _++_}
 use lib.ListN.{length, take}
-use Rattle.lists.specs.Lists.{each, total, listed, Place}
+use Rattle.lists.specs.Lists.{keep, each, total, listed, Place}
+use Rattle.lists.proofs.Tests.{by-test}
 
 module _ {A : Type 0} where
   -- in the first of two lists
@@ -36,3 +38,13 @@ place-each f [] i x p k y q = absurd p
 place-each f (z ∷ xs) zero x p k y q = rw (zero-add k, p) (place-left (f x) (each f xs) k y q)
 place-each f (z ∷ xs) (suc i) x p k y q =
     rw add-assoc (place-right (f z) (each f xs) _ y (place-each f xs i x p k y q))
+
+-- and of each element that is kept: behind all that is made of those kept before
+pub place-kept : {A B : Type 0} (p : A → Bool) (f : A → List B) (xs : List A) (i : ℕ) (x : A) → Place xs i x → p x ≡ true
+    → (k : ℕ) (y : B) → Place (f x) k y → Place (each f (keep p xs)) (total (λ u. length (f u)) (keep p (take i xs)) + k) y
+unfolding Place each total keep
+place-kept p f [] i x l e k y q = absurd l
+place-kept p f (z ∷ xs) zero x l e k y q = rw (l, e, zero-add k) (place-left (f x) (each f (keep p xs)) k y q)
+place-kept p f (z ∷ xs) (suc i) x l e k y q =
+    by-test (p z) (λ h. rw (h, add-assoc) (place-right (f z) (each f (keep p xs)) _ y (place-kept p f xs i x l e k y q)))
+    (λ h. rw h (place-kept p f xs i x l e k y q))

@@ -19,5 +19,6 @@ pub mod BegunSample
 pub mod Cores
 pub mod Highest
 pub mod Ranges
+pub mod Most
 pub mod ChainSample
 pub mod Chains

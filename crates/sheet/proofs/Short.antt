@@ -10,59 +10,24 @@ use Rattle.lists.proofs.Tests.{by-test}
 use Rattle.lists.proofs.Keep.{kept}
 use Rattle.lists.proofs.Listed.{listed-length}
 use Rattle.lists.proofs.Counted.{counted-below, total-ones, each-short}
-use Rattle.model.specs.declared.Found.{Found}
-use Rattle.model.specs.declared.Found.the-variants.{At, Nothing}
-use Rattle.model.specs.Least.{least, value, maxBelow}
 use Rattle.model.specs.Task.{Task, parts}
 use Rattle.model.specs.Rows.{GoodTask}
-use Rattle.model.specs.Bounds.{onCore, limit, cooperative, preemptiveEnd, start, endFrom, finish, response, bound, jobs}
+use Rattle.model.specs.Bounds.{onCore, bound}
 use Rattle.model.specs.Bounds.{CoreVerdict, passes, noWindow, misses, coreVerdict}
 use Rattle.model.specs.Verdict.{Judged}
-use Rattle.model.proofs.Least.{least-says}
+use Rattle.model.proofs.Most.{bound-most}
 use Rattle.model.proofs.Verdict.{verdict-says}
 use Rattle.table.specs.declared.Verdict.{Verdict}
 use Rattle.table.specs.declared.Verdict.the-variants.{Good, EndsEarly, Malformed, OutOfRange, IdTwice, PriorityTwice}
 use Rattle.table.specs.declared.Verdict.the-variants.{KindsCrossed, TooManyTimes, Trailing, NoSuchCore, NoRoom, NoWindow, Missed}
-use Rattle.table.specs.declared.Verdict.the-variants.{BadText}
+use Rattle.table.specs.declared.Verdict.the-variants.{UnknownStep, BadText}
 use Rattle.table.specs.Verdicts.{codeOf, numberOf}
 use Rattle.table.specs.Memory.{allTimes}
 use Rattle.analysis.specs.Analysis.{needed, named}
-use Rattle.analysis.proofs.Lengths.{value-most}
 use Rattle.text.specs.Text.{decimal, joined, line}
 use Rattle.sheet.specs.Sheet.{boundLine, coreLine, fileLine, header, partLine, rowLines, coreTextOf, coreText, goodText}
 use Rattle.text.proofs.Decimals.{decimal-short}
 use Rattle.sheet.proofs.CoreTexts.{said-is}
-
--- ---- a bound is at most the limit
-
--- the least solution is
-least-most : (g : ℕ → ℕ) (from : ℕ) → value (least g from limit) ≤ limit
-least-most g from = value-most g from limit (least g from limit) (least-says g from limit)
-
--- so is the largest of some
-max-most : (h : ℕ → ℕ) (n m : ℕ) → ((k : ℕ) → h k ≤ m) → maxBelow h n ≤ m
-unfolding maxBelow
-max-most h zero m e = omega arith
-max-most h (suc n) m e = omega (arith, max-most h n m e, e n)
-
-module _ (rows : List Task) (t : Task) (r : ℕ) where
-  -- a cooperative end
-  end-most : (j : ℕ) (x : Found) → value (endFrom rows t r j x) ≤ limit
-  unfolding endFrom
-  end-most j (At s) = least-most _ _
-  end-most j Nothing = unfold value in omega arith
-
-  -- either end
-  finish-most : (j : ℕ) → value (finish rows t r j) ≤ limit
-  unfolding finish preemptiveEnd
-  finish-most j =
-      by-test (cooperative t) (λ e. rw (e, finish) (end-most j (start rows t r j)))
-      (λ e. rw (e, finish) (least-most _ _))
-
-  -- so the largest response
-  bound-most : bound rows t r ≤ 16777215
-  unfolding bound response limit
-  bound-most = max-most _ (jobs rows t) 16777215 (λ j. omega (arith, finish-most j))
 
 -- ---- lines
 
@@ -137,6 +102,7 @@ code-short (NoSuchCore n) = lit< tt
 code-short (NoRoom n) = lit< tt
 code-short (NoWindow n) = lit< tt
 code-short (Missed n) = lit< tt
+code-short (UnknownStep n) = lit< tt
 code-short (BadText n) = lit< tt
 
 -- the task that a verdict names is one of the rows
