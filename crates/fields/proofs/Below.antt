@@ -10,12 +10,12 @@ use Rattle.table.proofs.Heads.{highs}
 use Rattle.fields.specs.Promises.{AllBelow}
 
 -- no number
-none : {bound : ℕ} → 0 < bound → AllBelow [] bound
-none h = record { below = λ i. h }
+pub none-below : {bound : ℕ} → 0 < bound → AllBelow [] bound
+none-below h = record { below = λ i. h }
 
 -- one number more
-more : {n bound : ℕ} {ns : List ℕ} → n < bound → AllBelow ns bound → AllBelow (n ∷ ns) bound
-more {n} {bound} {ns} h b = record { below = by }
+pub more-below : {n bound : ℕ} {ns : List ℕ} → n < bound → AllBelow ns bound → AllBelow (n ∷ ns) bound
+more-below {n} {bound} {ns} h b = record { below = by }
   where
     by : (i : ℕ) → getD (n ∷ ns) i 0 < bound
     by zero = h
@@ -25,13 +25,14 @@ more {n} {bound} {ns} h b = record { below = by }
 pub highs-below : AllBelow highs 16777216
 unfolding highs
 highs-below =
-    more (lit< tt) (more (lit< tt) (more (lit< tt) (more (lit< tt) (more (lit< tt) (more (lit< tt) (none (lit< tt)))))))
+    more-below (lit< tt) (more-below (lit< tt) (more-below (lit< tt)
+    (more-below (lit< tt) (more-below (lit< tt) (more-below (lit< tt) (none-below (lit< tt)))))))
 
 -- the same range as often as it is wanted
 same-below : (n m x bound : ℕ) → x < bound → AllBelow (take n (replicate m x)) bound
-same-below zero m x bound h = none (omega arith)
-same-below (suc n) zero x bound h = none (omega arith)
-same-below (suc n) (suc m) x bound h = more h (same-below n m x bound h)
+same-below zero m x bound h = none-below (omega arith)
+same-below (suc n) zero x bound h = none-below (omega arith)
+same-below (suc n) (suc m) x bound h = more-below h (same-below n m x bound h)
 
 -- as the code gives it: n lows and n highs
 pub times-below : (n : ℕ) → n ≤ 64

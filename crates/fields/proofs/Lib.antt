@@ -15,3 +15,4 @@ pub mod Valued
 pub mod FieldSteps
 pub mod Below
 pub mod Ways
+pub mod Judged

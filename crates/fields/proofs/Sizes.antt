@@ -9,6 +9,7 @@ use Rattle.lists.specs.Lists.{total}
 use Rattle.lists.proofs.Each.{each-length}
 use Rattle.lists.proofs.Totals.{total-snoc}
 use Rattle.numbers.specs.Numbers.{encodeIn, encode, encodeAll}
+use Rattle.numbers.proofs.Laws.{length-one}
 use Rattle.numbers.proofs.Sizes.{longer}
 use Rattle.table.specs.Fields.{Wanted, head, time}
 use Rattle.table.proofs.Fine.{AllFine}
@@ -48,6 +49,11 @@ bytesOf w = length (encode (w .high))
 pub short : (ws : List Wanted) (ns : List ℕ) → AllFine ws ns → length (encodeAll ns) ≤ total bytesOf ws
 unfolding bytesOf
 short ws ns f = rw (each-length encode ns) (fine-most (λ n. length (encode n)) longer ws ns f)
+
+-- one for a number below 128
+pub bytes-one : (w : Wanted) → w .high < 128 → bytesOf w ≡ 1
+unfolding bytesOf
+bytes-one w h = length-one (w .high) h
 
 -- id 3, core 1, type 1, priority 2, period 4, deadline 4, part count 1
 pub bytes-head : (used : ℕ) → total bytesOf (head used) ≡ 16

@@ -219,7 +219,7 @@ fn read_number(way: Way, bytes: &[u8], at: usize, low: u32, high: u32, left: u32
 }
 
 // As many numbers as `out` has room for, each in its own range, from `at` on.
-fn read_fields(
+pub fn read_fields(
     way: Way,
     bytes: &[u8],
     at: usize,
