@@ -19,5 +19,6 @@ code-table =
       code10 = λ n. (refl, refl);
       code11 = λ n. (refl, refl);
       code12 = λ n. (refl, refl);
+      code16 = λ n. (refl, refl);
       code17 = λ n. (refl, refl);
     }

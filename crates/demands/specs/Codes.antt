@@ -37,5 +37,7 @@ pub record CodeTable : Type 0 where
   pub code11 : (n : ℕ) → Carries (C.NoWindow n) 11 n
   -- a deadline is missed: task id
   pub code12 : (n : ℕ) → Carries (C.Missed n) 12 n
+  -- 02, §4: an unknown task or part: step, from 0
+  pub code16 : (n : ℕ) → Carries (C.UnknownStep n) 16 n
   -- 02, §1: a fault of text: offset of the first byte that cannot go on, or the text's length
   pub code17 : (n : ℕ) → Carries (C.BadText n) 17 n

@@ -15,7 +15,7 @@ use Rattle.table.specs.declared.Table.{Table}
 use Rattle.table.specs.declared.Verdict.{Verdict}
 use Rattle.table.specs.declared.Verdict.the-variants.{Good, EndsEarly, Malformed, OutOfRange, IdTwice, PriorityTwice}
 use Rattle.table.specs.declared.Verdict.the-variants.{KindsCrossed, TooManyTimes, Trailing, NoSuchCore, NoRoom, NoWindow, Missed}
-use Rattle.table.specs.declared.Verdict.the-variants.{BadText}
+use Rattle.table.specs.declared.Verdict.the-variants.{UnknownStep, BadText}
 use Rattle.table.specs.Verdicts.{codeOf, good, reading, _orElse_}
 use Rattle.table.specs.Fields.{Wanted, head, time, fieldsOf, judge, faultIn}
 use Rattle.table.specs.Memory.{usedRows}
@@ -107,4 +107,5 @@ refused-not-12 v r = by v (r .read)
     by (NoRoom n) q e = omega arith
     by (NoWindow n) q e = omega arith
     by (Missed n) q e = never q refl
+    by (UnknownStep n) q e = omega arith
     by (BadText n) q e = omega arith

@@ -1,4 +1,4 @@
--- Document 01, "Codes and what they leave", and 02, §1: the code of each verdict and the number carried.
+-- Document 01, "Codes and what they leave", and 02, §1 and §4: the code of each verdict and the number carried.
 use Prim.Native.Nat.{ℕ}
 use mathlib.Core.Bool.{Bool, true, false}
 use lib.Dec.{eqb}
@@ -6,7 +6,7 @@ use Rattle.lists.specs.Lists.{pick}
 use Rattle.table.specs.declared.Verdict.{Verdict}
 use Rattle.table.specs.declared.Verdict.the-variants.{Good, EndsEarly, Malformed, OutOfRange, IdTwice, PriorityTwice}
 use Rattle.table.specs.declared.Verdict.the-variants.{KindsCrossed, TooManyTimes, Trailing, NoSuchCore, NoRoom, NoWindow, Missed}
-use Rattle.table.specs.declared.Verdict.the-variants.{BadText}
+use Rattle.table.specs.declared.Verdict.the-variants.{UnknownStep, BadText}
 
 abbrev pub codeOf : Verdict → ℕ
 codeOf Good = 0
@@ -22,6 +22,7 @@ codeOf (NoSuchCore n) = 9
 codeOf (NoRoom n) = 10
 codeOf (NoWindow n) = 11
 codeOf (Missed n) = 12
+codeOf (UnknownStep n) = 16
 codeOf (BadText n) = 17
 
 abbrev pub numberOf : Verdict → ℕ
@@ -38,6 +39,7 @@ numberOf (NoSuchCore n) = n
 numberOf (NoRoom n) = n
 numberOf (NoWindow n) = n
 numberOf (Missed n) = n
+numberOf (UnknownStep n) = n
 numberOf (BadText n) = n
 
 -- the verdicts that reading a file gives
@@ -55,6 +57,7 @@ reading (NoSuchCore n) = false
 reading (NoRoom n) = false
 reading (NoWindow n) = false
 reading (Missed n) = false
+reading (UnknownStep n) = false
 reading (BadText n) = false
 
 unfoldable pub good : Verdict → Bool

@@ -29,7 +29,7 @@ pub struct Table {
     pub times: [u32; 1024],
 }
 
-// What is said of a file, a core, a table or a text: the documents' codes, each with the number it carries.
+// What is said of a file, a core, a table, a text or a chain: the documents' codes, each with the number it carries.
 pub enum Verdict {
     Good,
     EndsEarly(usize),
@@ -44,6 +44,7 @@ pub enum Verdict {
     NoRoom(usize),
     NoWindow(usize),
     Missed(usize),
+    UnknownStep(usize),
     BadText(usize),
 }
 
@@ -90,6 +91,7 @@ pub fn code_of(v: Verdict) -> u32
         Verdict::NoRoom(_) => 10,
         Verdict::NoWindow(_) => 11,
         Verdict::Missed(_) => 12,
+        Verdict::UnknownStep(_) => 16,
         Verdict::BadText(_) => 17,
     }
 }
@@ -112,6 +114,7 @@ pub fn number_of(v: Verdict) -> usize
         | Verdict::NoRoom(n)
         | Verdict::NoWindow(n)
         | Verdict::Missed(n)
+        | Verdict::UnknownStep(n)
         | Verdict::BadText(n) => n,
     }
 }
