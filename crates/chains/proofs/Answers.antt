@@ -1,0 +1,53 @@
+-- The answer for a table and a list, by what was read of each. Assumes nothing.
+use Prim.Native.Nat.{ℕ}
+use mathlib.Core.Path.{_≡_, refl, sym, ap, _∙_}
+use mathlib.Core.List.{List, []}
+use Rattle.model.specs.Task.{Task}
+use Rattle.table.specs.Verdicts.{codeOf}
+use Rattle.table.specs.Memory.{tasksOf}
+use Rattle.table.proofs.ReadingCodes.{refused-not-0}
+use Rattle.table.proofs.Stored.{tasks-stored}
+use Rattle.fields.specs.Stepping.{Step, stop, go}
+use Rattle.files.specs.declared.Loaded.{Loaded}
+use Rattle.files.specs.Reading.{decode, loaded, readAnswer}
+use Rattle.files.proofs.Stops.{stop-fault}
+use Rattle.chains.specs.declared.About.the-variants as A
+use Rattle.chains.specs.declared.Listed.{Listed}
+use Rattle.chains.specs.Lists.{listNumbers}
+use Rattle.chains.specs.Chains.{linksAt, chainIn, refusal, chainSaid, answerFor, delayAnswer}
+use Rattle.chains.specs.Promises.{asListed, stepsIn}
+use Rattle.chains.proofs.Listing.{list-refused, list-chain}
+
+module _ (s : List ℕ) (f : Loaded) (read : f ≡ readAnswer s) where
+  -- a refused table is what is spoken of
+  pub file-refused : (codeOf (f .verdict) ≡ 0 → ⊥) → (list : List ℕ) → refusal A.File (f .verdict) ≡ delayAnswer s list
+  unfolding readAnswer delayAnswer answerFor
+  file-refused bad list = of (decode s) refl
+    where
+      of : (x : Step (List Task)) → decode s ≡ x → refusal A.File (f .verdict) ≡ answerFor (decode s) list
+      of (stop v) e = rw (e, ap (λ (y : Loaded). y .verdict) (read ∙ ap loaded e))
+      of (go ts n) e = absurd (bad (ap (λ (y : Loaded). codeOf (y .verdict)) (read ∙ ap loaded e)))
+
+  module _ (fine : codeOf (f .verdict) ≡ 0) (list : List ℕ) where
+    -- of a good one the chain decides
+    by-chain : delayAnswer s list ≡ chainSaid (tasksOf (f .table)) (chainIn (tasksOf (f .table)) list)
+    unfolding readAnswer delayAnswer answerFor
+    by-chain = of (decode s) refl
+      where
+        of : (x : Step (List Task)) → decode s ≡ x
+            → answerFor (decode s) list ≡ chainSaid (tasksOf (f .table)) (chainIn (tasksOf (f .table)) list)
+        of (stop v) e =
+            let own : f .verdict ≡ v = ap (λ (y : Loaded). y .verdict) (read ∙ ap loaded e) in
+            absurd (refused-not-0 v (stop-fault s v e) (sym (ap codeOf own) ∙ fine))
+        of (go ts n) e = rw (e, ap (λ (y : Loaded). tasksOf (y .table)) (read ∙ ap loaded e) ∙ tasks-stored ts)
+
+    module _ (l : Listed) (listed : l ≡ asListed (listNumbers list)) where
+      -- a refused list is what is spoken of
+      pub list-refuses : (codeOf (l .verdict) ≡ 0 → ⊥) → refusal A.List (l .verdict) ≡ delayAnswer s list
+      unfolding chainSaid
+      list-refuses bad = sym (by-chain ∙ rw (list-refused list l listed bad (tasksOf (f .table))))
+
+      -- else the chain of its steps
+      pub chain-answers : codeOf (l .verdict) ≡ 0
+          → chainSaid (tasksOf (f .table)) (linksAt (tasksOf (f .table)) (stepsIn l) [] 0) ≡ delayAnswer s list
+      chain-answers good = sym (by-chain ∙ ap (chainSaid (tasksOf (f .table))) (list-chain list l listed good (tasksOf (f .table))))

@@ -1,0 +1,171 @@
+-- What was found of a chain's steps and said of its cores, and the answer that the definition gives then. Assumes nothing.
+use Prim.Native.Nat.{ℕ, suc, _+_, _≤_}
+use native.Mathlib.Omega.{arith}
+use mathlib.Core.Path.{_≡_, refl, sym, ap, _∙_}
+use mathlib.Core.List.{List, [], _∷_, _++_, map}
+use lib.ListN.{length, take, length-append}
+use lib.Dec.{eqb, ltb}
+use lib.Seq.{length-take-le}
+use Rattle.lists.specs.Lists.{_∈_, pick}
+use Rattle.lists.proofs.Tests.{by-test, never}
+use Rattle.model.specs.Task.{Task, parts}
+use Rattle.model.specs.Bounds.{onCore}
+use Rattle.model.specs.Chains.{Link, delay}
+use Rattle.table.specs.declared.Table.{Table}
+use Rattle.table.specs.declared.Verdict.the-variants.{UnknownStep}
+use Rattle.table.specs.Verdicts.{codeOf, good}
+use Rattle.table.specs.Memory.{tasksOf}
+use Rattle.table.proofs.Codes.{is-good}
+use Rattle.fields.specs.Stepping.{Step, stop, go, _then_}
+use Rattle.fields.proofs.Taken.{stopped-not, then-read}
+use Rattle.fields.proofs.Honest.{Honest, stop-honest, go-honest, pick-honest, then-honest, honest-fault}
+use Rattle.chains.specs.declared.About.the-variants as A
+use Rattle.chains.specs.declared.Delayed.{Delayed}
+use Rattle.chains.specs.declared.Found.{Found}
+use Rattle.chains.specs.declared.Listed.{Listed}
+use Rattle.chains.specs.declared.Spot.{Spot}
+use Rattle.chains.specs.Lists.{ChainStep}
+use Rattle.chains.specs.Chains.{partAt, linkAt, linksAt, refusal, whole, saidOn, coresSaid, coreOf, chainSaid}
+use Rattle.analysis.specs.Analysis.{needed}
+use Rattle.chains.specs.Promises.{Spots, Finds, stepsIn, IsList, OnCores, coresIn, Filled, WorksAll, addedAt, sumBelow, Summable}
+use Rattle.chains.proofs.Listing.{steps-in}
+use Rattle.chains.proofs.Rows.{Sound, tasks-each}
+use Rattle.chains.proofs.Rooms.{needed-few}
+use Rattle.chains.proofs.Delays.{cores-same, on-cores, summable, sum-is-delay}
+
+-- ---- the steps
+
+module _ (tasks : List Task) where
+  -- a step stops only at 16
+  link-honest : (ts : List Task) (s : ChainStep) (n : ℕ) → Honest (linkAt ts s n)
+  unfolding linkAt partAt good
+  link-honest [] s n = stop-honest Link (UnknownStep n) refl
+  link-honest (t ∷ ts) s n =
+      pick-honest (eqb (t .id) (s .task)) _ _
+      (pick-honest (ltb (parts t) (s .part)) _ _ (stop-honest Link (UnknownStep n) refl) (go-honest _ (suc n)))
+      (link-honest ts s n)
+
+  -- so do all
+  pub links-honest : (steps : List ChainStep) (done : List Link) (n : ℕ) → Honest (linksAt tasks steps done n)
+  unfolding linksAt
+  links-honest [] done n = go-honest done n
+  links-honest (s ∷ steps) done n =
+      then-honest (linkAt tasks s n) _ (link-honest tasks s n) (λ l m. links-honest steps (done ++ (l ∷ [])) m)
+
+  -- where none stops there is a link for each
+  links-count : (steps : List ChainStep) (done : List Link) (n : ℕ) (links : List Link) (m : ℕ) → linksAt tasks steps done n ≡ go links m
+      → length links ≡ length done + length steps
+  unfolding linksAt
+  links-count [] done n links m e = let same : done ≡ links = cc in rw same (omega arith)
+  links-count (s ∷ steps) done n links m e =
+      let r = then-read (linkAt tasks s n) _ links m e in
+      omega (arith, links-count steps (done ++ (r .what ∷ [])) (r .place) links m (r .rest), length-append done (r .what ∷ []))
+
+-- ---- the cores
+
+module _ (tasks : List Task) (d : ℕ) where
+  -- one of them is refused, whatever the delay
+  cores-refused : (cores : List ℕ) → (codeOf (coresSaid tasks cores (whole 0) .verdict) ≡ 0 → ⊥)
+      → coresSaid tasks cores (whole 0) ≡ coresSaid tasks cores (whole d)
+  unfolding coresSaid
+  cores-refused [] bad = absurd (bad refl)
+  cores-refused (c ∷ cores) bad =
+      by-test (good (saidOn tasks c)) (λ e. rw e (cores-refused cores (rw e at bad))) (λ e. rw e)
+
+  -- none is
+  cores-pass : (cores : List ℕ) → codeOf (coresSaid tasks cores (whole 0) .verdict) ≡ 0 → whole d ≡ coresSaid tasks cores (whole d)
+  unfolding coresSaid
+  cores-pass [] fine = refl
+  cores-pass (c ∷ cores) fine =
+      by-test (good (saidOn tasks c)) (λ e. rw e (cores-pass cores (rw e at fine)))
+      (λ e. absurd (never (is-good (saidOn tasks c) (rw e at fine)) e))
+
+-- ---- the answer
+
+-- a chain found in its table
+pub record Chained (t : Table) (l : Listed) (spots : List Spot) : Type 0 where
+  pub sound : Sound t
+  pub links : List Link
+  pub last : ℕ
+  pub same : linksAt (tasksOf t) (stepsIn l) [] 0 ≡ go links last
+  pub found : Spots (tasksOf t) links spots
+  pub long : length spots ≡ 33
+  pub count : l .count ≡ length links
+
+module _ (t : Table) (l : Listed) (r : Found) (f : Finds (tasksOf t) (linksAt (tasksOf t) (stepsIn l) [] 0) r) where
+  -- a step is unknown
+  pub not-chained : (codeOf (r .verdict) ≡ 0 → ⊥)
+      → refusal A.List (r .verdict) ≡ chainSaid (tasksOf t) (linksAt (tasksOf t) (stepsIn l) [] 0)
+  unfolding chainSaid
+  not-chained bad = of (linksAt (tasksOf t) (stepsIn l) [] 0) f
+    where
+      of : (x : Step (List Link)) → Finds (tasksOf t) x r → refusal A.List (r .verdict) ≡ chainSaid (tasksOf t) x
+      of (stop v) e = rw e
+      of (go links n) e = absurd (bad (ap codeOf (e .0)))
+
+  -- all are found
+  pub chained : Sound t → IsList l → length (l .numbers) ≡ 64 → length (r .spots) ≡ 33 → codeOf (r .verdict) ≡ 0
+      → Chained t l (r .spots)
+  chained sound list numbers long fine = of (linksAt (tasksOf t) (stepsIn l) [] 0) refl f
+    where
+      of : (x : Step (List Link)) → linksAt (tasksOf t) (stepsIn l) [] 0 ≡ x → Finds (tasksOf t) x r → Chained t l (r .spots)
+      of (stop v) e own = absurd (honest-fault _ v (links-honest (tasksOf t) (stepsIn l) [] 0) e (sym (ap codeOf own) ∙ fine))
+      of (go links n) e own =
+          let all = links-count (tasksOf t) (stepsIn l) [] 0 links n e in
+          record {
+            sound = sound;
+            links = links;
+            last = n;
+            same = e;
+            found = own .1;
+            long = long;
+            count = omega (arith, steps-in l (list .few) numbers);
+          }
+
+module _ {t : Table} {l : Listed} {spots : List Spot} (k : Chained t l spots) where
+  -- each of its tasks is a good one
+  abbrev tasks : List Task
+  tasks = tasksOf t
+
+  -- its cores, as the code goes through them
+  its-cores : coresIn (l .count) spots ≡ map coreOf (k .links)
+  its-cores = rw (k .count) (cores-same (k .found) (tasks-each (k .sound)) (k .long))
+
+  -- are there
+  pub cores-there : OnCores (l .count) spots
+  cores-there = rw (k .count) (on-cores (k .found) (tasks-each (k .sound)))
+
+  -- what the definition says of the chain
+  its-answer : chainSaid tasks (linksAt tasks (stepsIn l) [] 0)
+      ≡ coresSaid tasks (coresIn (l .count) spots) (whole (delay tasks (k .links)))
+  unfolding chainSaid
+  its-answer = rw (k .same, its-cores)
+
+  module _ {said : Delayed} {rooms : List ℕ} (w : WorksAll tasks (coresIn (l .count) spots) said rooms) where
+    -- a core is refused
+    pub core-refused : (codeOf (said .verdict) ≡ 0 → ⊥) → said ≡ chainSaid tasks (linksAt tasks (stepsIn l) [] 0)
+    core-refused bad =
+        w .said ∙ cores-refused tasks (delay tasks (k .links)) (coresIn (l .count) spots) (rw (w .said) at bad) ∙ sym its-answer
+
+    module _ (fine : codeOf (said .verdict) ≡ 0) (long : length rooms ≡ 4096) where
+      -- else each core has room for its bounds
+      few : (core : ℕ) → needed (onCore core tasks) ≤ 1024
+      few = needed-few t (k .sound .rows) (k .sound .times) (k .sound .fine)
+
+      -- and they are there
+      cores-filled : (core : ℕ) → core ∈ map coreOf (k .links) → Filled tasks rooms core
+      cores-filled = rw its-cores at (w .filled fine)
+
+      -- so the steps can be summed
+      pub can-sum : Summable (l .count) spots rooms
+      can-sum = rw (k .count) (summable (k .found) (tasks-each (k .sound)) long few cores-filled)
+
+      -- and that is the answer
+      pub chain-passes : (d : ℕ) → d ≡ sumBelow (addedAt spots rooms) (l .count)
+          → whole d ≡ chainSaid tasks (linksAt tasks (stepsIn l) [] 0)
+      chain-passes d e =
+          let sum : sumBelow (addedAt spots rooms) (length (k .links)) ≡ delay tasks (k .links)
+          = sum-is-delay (k .found) (tasks-each (k .sound)) long few cores-filled in
+          let all : d ≡ delay tasks (k .links) = e ∙ rw (k .count) sum in
+          rw all (cores-pass tasks (delay tasks (k .links)) (coresIn (l .count) spots) (ap (λ (x : Delayed). codeOf (x .verdict)) (sym (w .said)) ∙ fine)
+          ∙ sym its-answer)

@@ -1,0 +1,172 @@
+-- From what the code keeps of a chain's steps and of its cores' bounds: the sum that it makes is the delay. Assumes nothing.
+use Prim.Native.Nat.{ℕ, zero, suc, _+_, _*_, _≤_, _<_}
+use native.Mathlib.Nat.{add-zero, zero-add, add-assoc}
+use native.Mathlib.Omega.{arith}
+use borrow.Author.Tests.{eq-eqb, ne-eqb}
+use mathlib.Core.Path.{_≡_, refl, sym, ap, _∙_}
+use mathlib.Core.Bool.{Bool, _&&_}
+use mathlib.Core.List.{List, [], _∷_, map, Memᴰ·map}
+use lib.ListN.{length, getD, take, drop, length-map, length-drop, List·getD-map, drop-of-length-le}
+use lib.Seq.{ext-getD, getD-take, length-take-le}
+use lib.Dec.{eqb, ltb}
+use Rattle.lists.specs.Lists.{_∈_, Place, pick, keep, each, total}
+use Rattle.lists.proofs.Tests.{by-test}
+use Rattle.lists.proofs.Drops.{place-drop}
+use Rattle.lists.proofs.Listed.{listed-length}
+use Rattle.lists.proofs.Totals.{total-same}
+use Rattle.lists.proofs.Places.{place-in, place-at, place-below, place-some, place-map}
+use Rattle.lists.proofs.EachPlaces.{place-listed, place-kept}
+use Rattle.model.specs.Task.{Task, parts}
+use Rattle.model.specs.Rows.{GoodTask}
+use Rattle.model.specs.Bounds.{onCore, bound, rowBounds}
+use Rattle.model.specs.Chains.{Link, sameJob, counts, counting, boundOf, stepDelay, delay}
+use Rattle.model.proofs.Most.{bound-most}
+use Rattle.analysis.specs.Analysis.{needed, coreBounds}
+use Rattle.analysis.proofs.BoundsPut.{bounds-length}
+use Rattle.chains.specs.declared.Spot.{Spot}
+use Rattle.chains.specs.Chains.{coreOf}
+use Rattle.chains.specs.Promises.{startOf, noSpot, Spots, OnCores, coresIn, Filled, placeIn, addedAt, sumBelow, Summable}
+
+-- a row's bound stands where its part says, behind those of the core's rows before it
+bound-at : (tasks : List Task) (at : ℕ) (t : Task) → Place tasks at t → (p : ℕ) → p < parts t
+    → Place (coreBounds (onCore (t .core) tasks)) (startOf tasks at t + p) (bound (onCore (t .core) tasks) t p)
+unfolding coreBounds rowBounds startOf onCore
+bound-at tasks at t l p h =
+    let rows = onCore (t .core) tasks in
+    let own : Task → Bool = λ u. eqb (u .core) (t .core) in
+    rw (total-same (λ u. length (rowBounds rows u)) parts (keep own (take at tasks)) (λ u m. listed-length (bound rows u) (parts u))) at
+    (place-kept own (rowBounds rows) tasks at t l (eq-eqb (t .core) (t .core) refl) p (bound rows t p)
+    (place-listed (bound rows t) (parts t) p h))
+
+-- lists that are the same begin with the same
+first-same : {l m : Link} {ls ms : List Link} → l ∷ ls ≡ m ∷ ms → l ≡ m
+first-same e = cc
+
+module _ {tasks : List Task} {links : List Link} {spots : List Spot} (k : Spots tasks links spots)
+    (good : (t : Task) → t ∈ tasks → GoodTask t) where
+  -- step i is inside the chain
+  module _ (i : ℕ) (l : Link) (here : Place links i l) where
+    -- its task is one of the table's
+    its-task : GoodTask (l .task)
+    its-task = good (l .task) (place-in tasks (k .spot i l here .at) (l .task) (k .spot i l here .row))
+
+    -- its core, its task id, its part and its period are these
+    its-core : getD spots i noSpot .core ≡ l .task .core
+    its-core = ap (λ (s : Spot). s .core) (k .spot i l here .is)
+
+    its-place : placeIn (getD spots i noSpot) ≡ l .task .core * 1024 + (startOf tasks (k .spot i l here .at) (l .task) + l .part)
+    its-place = ap placeIn (k .spot i l here .is) ∙ add-assoc _ _ _
+
+    -- its bound stands among its core's
+    its-bound : Place (coreBounds (onCore (l .task .core) tasks)) (startOf tasks (k .spot i l here .at) (l .task) + l .part) (boundOf tasks l)
+    unfolding boundOf
+    its-bound = bound-at tasks (k .spot i l here .at) (l .task) (k .spot i l here .row) (l .part) (k .spot i l here .inside)
+
+    -- which are as many as the core's parts
+    its-inside : startOf tasks (k .spot i l here .at) (l .task) + l .part < needed (onCore (l .task .core) tasks)
+    unfolding needed coreBounds
+    its-inside =
+        let rows = onCore (l .task .core) tasks in
+        omega (arith, place-below (each (rowBounds rows) rows) _ _ its-bound, bounds-length rows rows)
+
+  -- the cores of its steps are those of the chain, in order
+  pub cores-same : length spots ≡ 33 → coresIn (length links) spots ≡ map coreOf links
+  cores-same long = ext-getD 0 _ _ same-length (λ i h. by i (rw length-map at h))
+    where
+      first : length (take (length links) spots) ≡ length links
+      first = length-take-le (length links) spots (omega (arith, k .few))
+
+      same-length : length (coresIn (length links) spots) ≡ length (map coreOf links)
+      same-length = rw (length-map, length-map) first
+
+      by : (i : ℕ) → i < length (take (length links) spots) → getD (coresIn (length links) spots) i 0 ≡ getD (map coreOf links) i 0
+      by i h =
+          let inside : i < length links = omega (arith, first) in
+          let w = place-some links i inside in
+          List·getD-map (λ (s : Spot). s .core) (take (length links) spots) i noSpot
+          ∙ rw (getD-take (length links) spots i noSpot inside, place-map coreOf links i (w .0) (w .1)) (its-core i (w .0) (w .1))
+
+  -- at most 3
+  pub on-cores : OnCores (length links) spots
+  on-cores = record { few = k .few; core = λ i h. by i (place-some links i h) }
+    where
+      by : (i : ℕ) → (l : Link) × Place links i l → getD spots i noSpot .core ≤ 3
+      by i w = omega (arith, its-core i (w .0) (w .1), its-task i (w .0) (w .1) .core .most)
+
+  -- and with the bounds of every core of the chain
+  module _ {rooms : List ℕ} (long : length rooms ≡ 4096) (few : (c : ℕ) → needed (onCore c tasks) ≤ 1024)
+      (filled : (c : ℕ) → c ∈ map coreOf links → Filled tasks rooms c) where
+    -- the bound of step i is found in the rooms
+    in-rooms : (i : ℕ) (l : Link) → Place links i l → getD rooms (placeIn (getD spots i noSpot)) 0 ≡ boundOf tasks l
+    in-rooms i l here =
+        let core = l .task .core in
+        let on = filled core (Memᴰ·map coreOf (place-in links i l here)) in
+        ap (λ (n : ℕ). getD rooms n 0) (its-place i l here)
+        ∙ on .bound _ (its-inside i l here)
+        ∙ place-at 0 (coreBounds (onCore core tasks)) _ _ (its-bound i l here)
+
+    -- so the steps can be summed
+    pub summable : Summable (length links) spots rooms
+    unfolding boundOf
+    summable =
+        record {
+          few = k .few;
+          inside = λ i h. by-inside i (place-some links i h);
+          period = λ i h. by-period i (place-some links i h);
+          bound = λ i h. by-bound i (place-some links i h);
+        }
+      where
+        by-inside : (i : ℕ) → (l : Link) × Place links i l → placeIn (getD spots i noSpot) < length rooms
+        by-inside i w =
+            let core = w .0 .task .core in
+            omega (arith, its-place i (w .0) (w .1), its-inside i (w .0) (w .1), few core, its-task i (w .0) (w .1) .core .most)
+
+        by-period : (i : ℕ) → (l : Link) × Place links i l → getD spots i noSpot .period ≤ 16777215
+        by-period i w =
+            omega (arith, ap (λ (s : Spot). s .period) (k .spot i (w .0) (w .1) .is), its-task i (w .0) (w .1) .period .most)
+
+        by-bound : (i : ℕ) → (l : Link) × Place links i l → getD rooms (placeIn (getD spots i noSpot)) 0 ≤ 16777215
+        by-bound i w =
+            let l = w .0 in
+            omega (arith, in-rooms i l (w .1), bound-most (onCore (l .task .core) tasks) (l .task) (l .part))
+
+    -- what step i adds, by the next one
+    adds : (i : ℕ) (l : Link) → Place links i l → (next : Spot) → getD spots (suc i) noSpot ≡ next
+        → addedAt spots rooms i ≡ pick (eqb (l .task .id) (next .task) && ltb (l .part) (next .part)) 0 (stepDelay tasks l)
+    unfolding stepDelay
+    adds i l here next e = rw (in-rooms i l here, k .spot i l here .is, e)
+
+    -- is its share of the delay
+    shares : (i : ℕ) (l : Link) → Place links i l → addedAt spots rooms i + delay tasks (drop (suc i) links) ≡ delay tasks (drop i links)
+    unfolding delay counting counts sameJob total
+    shares i l here = rw (place-drop links i l here) (by (drop (suc i) links) refl)
+      where
+        by : (ls : List Link) → drop (suc i) links ≡ ls
+            → addedAt spots rooms i + total (stepDelay tasks) (counting ls) ≡ total (stepDelay tasks) (counting (l ∷ ls))
+        by [] e =
+            let past : length links ≤ suc i = omega (arith, length-drop (suc i) links, ap length e) in
+            let other : l .task .id ≡ 0 → ⊥ = λ z. omega (arith, its-task i l here .id .least) in
+            rw (adds i l here noSpot (k .none (suc i) past), ne-eqb (l .task .id) 0 other)
+        by (m ∷ ls) e =
+            let w = place-some links (suc i) (omega (arith, length-drop (suc i) links, ap length e)) in
+            let same : m ≡ w .0 = first-same (sym e ∙ place-drop links (suc i) (w .0) (w .1)) in
+            let mine = adds i l here _ (k .spot (suc i) (w .0) (w .1) .is) in
+            by-test (eqb (l .task .id) (m .task .id) && ltb (l .part) (m .part))
+            (λ t. rw (mine, ← same, t) (zero-add _))
+            (λ t. rw (mine, ← same, t))
+
+    -- so they are the delay
+    sums : (i : ℕ) → i ≤ length links → sumBelow (addedAt spots rooms) i + delay tasks (drop i links) ≡ delay tasks links
+    unfolding sumBelow
+    sums zero h = zero-add _
+    sums (suc i) h =
+        let w = place-some links i (omega arith) in
+        omega (arith, sums i (omega arith), shares i (w .0) (w .1))
+
+    -- all of it
+    pub sum-is-delay : sumBelow (addedAt spots rooms) (length links) ≡ delay tasks links
+    unfolding delay counting total
+    sum-is-delay =
+        let all : length links ≤ length links = omega arith in
+        let none : drop (length links) links ≡ [] = drop-of-length-le links all in
+        sym (add-zero _) ∙ rw none at (sums (length links) (omega arith))

@@ -1,0 +1,12 @@
+pub mod Listing
+pub mod Rows
+pub mod Indexing
+pub mod Looking
+pub mod Finding
+pub mod Rooms
+pub mod Working
+pub mod Adding
+pub mod Delays
+pub mod Chained
+pub mod Answers
+pub mod Fronts

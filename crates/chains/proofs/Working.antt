@@ -1,0 +1,129 @@
+-- Cores worked out in step order, each once: what is said of them, and that the bounds of those that are ready stand in the rooms.
+-- Assumes nothing.
+use Prim.Native.Nat.{ℕ, _+_, _≤_, _<_}
+use native.Mathlib.Numerals.{add-one}
+use native.Mathlib.Omega.{arith}
+use borrow.Author.Tests.{eqb-true, eqb-false}
+use mathlib.Core.Path.{_≡_, refl, sym, ap, _∙_}
+use mathlib.Core.Bool.{Bool, true, false}
+use mathlib.Core.List.{List, [], _∷_, List·Memᴰ·not-nil, List·Memᴰ·cases-cons}
+use mathlib.Core.Logic.{_⊎_, inl, inr, ⊎-elim}
+use lib.Dec.{eqb}
+use lib.ListN.{length, getD, set, take, drop, replicate, length-set, length-map, length-take, drop-of-length-le, getD-replicate}
+use lib.ListN.{List·getD-map, List·getD-eq-default}
+use lib.Seq.{drop-cons, getD-take, length-take-le, getD-set-same, getD-set-other}
+use Rattle.lists.specs.Lists.{_∈_}
+use Rattle.lists.proofs.Tests.{by-test, never, either}
+use Rattle.model.specs.Task.{Task}
+use Rattle.table.specs.declared.Verdict.{Verdict}
+use Rattle.table.specs.Verdicts.{codeOf, good}
+use Rattle.table.proofs.Codes.{is-good, is-fault}
+use Rattle.chains.specs.declared.About.the-variants as A
+use Rattle.chains.specs.declared.Delayed.{Delayed}
+use Rattle.chains.specs.declared.Spot.{Spot}
+use Rattle.chains.specs.Chains.{refusal, whole, saidOn, coresSaid}
+use Rattle.chains.specs.Promises.{noSpot, coresIn, Filled, Works, WorksAll}
+
+-- a core that was worked out: it is good, and its bounds are there
+pub record Ready (tasks : List Task) (rooms : List ℕ) (core : ℕ) : Type 0 where
+  pub fine : good (saidOn tasks core) ≡ true
+  pub filled : Filled tasks rooms core
+
+-- cores of which some are left: the rest are ready, and what is said of all is what is said of those left
+pub record Working (tasks : List Task) (cores left : List ℕ) (rooms : List ℕ) (ready : List Bool) : Type 0 where
+  pub four : length ready ≡ 4
+  pub long : length rooms ≡ 4096
+  pub same : coresSaid tasks cores (whole 0) ≡ coresSaid tasks left (whole 0)
+  pub worked : (c : ℕ) → getD ready c false ≡ true → Ready tasks rooms c
+  pub passed : (c : ℕ) → c ∈ cores → (c ∈ left) ⊎ (getD ready c false ≡ true)
+
+-- no core is ready at first
+none-ready : (c : ℕ) → getD (replicate 4 false) c false ≡ false
+none-ready c = ⊎-elim (getD-replicate 4 c false false) (List·getD-eq-default (replicate 4 false) false) (either c 4)
+
+-- so all are left
+pub none-worked : (tasks : List Task) (cores rooms : List ℕ) → length rooms ≡ 4096 → Working tasks cores cores rooms (replicate 4 false)
+none-worked tasks cores rooms long =
+    record { four = refl; long = long; same = refl; worked = λ c e. absurd (never e (none-ready c)); passed = λ c m. inl m }
+
+-- a core is worked out and good
+module _ {tasks : List Task} {cores left rooms : List ℕ} {ready : List Bool} (w : Working tasks cores left rooms ready)
+    {core : ℕ} {v : Verdict} {rooms′ : List ℕ} (now : Works tasks core rooms v rooms′) (small : core ≤ 3) (e : codeOf v ≡ 0) where
+  -- its own mark is set, and the others' stay
+  marks : (c : ℕ) → ((c ≡ core) × (getD (set ready core true) c false ≡ true))
+      ⊎ ((c ≡ core → ⊥) × (getD (set ready core true) c false ≡ getD ready c false))
+  marks c =
+      by-test (eqb c core)
+      (λ y. (let q = eqb-true c core y in inl (q, rw q (getD-set-same ready core true false (omega (arith, w .four))))))
+      (λ n. (let q = eqb-false c core n in inr (q, getD-set-other ready core c true false q)))
+
+  -- so every core that is marked is ready
+  ready-now : (c : ℕ) → getD (set ready core true) c false ≡ true → Ready tasks rooms′ c
+  ready-now c r =
+      ⊎-elim
+      (λ x. rw (x .0) (record { fine = rw (now .said) at (is-good v e); filled = now .filled e }))
+      (λ x. (let was = w .worked c (sym (x .1) ∙ r) in record { fine = was .fine; filled = now .others c (x .0) (was .filled) }))
+      (marks c)
+
+  -- and it is among them
+  marked : Working tasks cores left rooms′ (set ready core true)
+  marked =
+      record {
+        four = length-set ready core true ∙ w .four;
+        long = now .long ∙ w .long;
+        same = w .same;
+        worked = ready-now;
+        passed = λ c m. ⊎-elim inl (λ r. inr (⊎-elim (λ x. x .1) (λ x. x .1 ∙ r) (marks c))) (w .passed c m);
+      }
+
+-- the next core is ready
+pub passing : {tasks : List Task} {cores : List ℕ} {core : ℕ} {left rooms : List ℕ} {ready : List Bool}
+    → Working tasks cores (core ∷ left) rooms ready → getD ready core false ≡ true → Working tasks cores left rooms ready
+passing {core = core} w e =
+    record {
+      four = w .four;
+      long = w .long;
+      same = w .same ∙ (unfold coresSaid in rw (w .worked core e .fine));
+      worked = w .worked;
+      passed = λ c m. ⊎-elim (λ x. ⊎-elim (λ y. inr (rw y e)) inl (List·Memᴰ·cases-cons x)) inr (w .passed c m);
+    }
+
+-- the next core is worked out
+module _ {tasks : List Task} {cores : List ℕ} {core : ℕ} {left rooms : List ℕ} {ready : List Bool}
+    (w : Working tasks cores (core ∷ left) rooms ready) {v : Verdict} {rooms′ : List ℕ} (now : Works tasks core rooms v rooms′) where
+  -- and good
+  pub next : core ≤ 3 → codeOf v ≡ 0 → Working tasks cores left rooms′ (set ready core true)
+  next small e = passing (marked w now small e) (getD-set-same ready core true false (omega (arith, w .four)))
+
+  -- or refused
+  pub halts : (codeOf v ≡ 0 → ⊥) → {r : Delayed} → r ≡ refusal (A.Core core) v → WorksAll tasks cores r rooms′
+  unfolding coresSaid
+  halts h e =
+      let fault : good (saidOn tasks core) ≡ false = rw (now .said) at (is-fault v h) in
+      rw (e, now .said) (record { said = sym (w .same ∙ rw fault); filled = λ z. absurd (h (ap codeOf (now .said) ∙ z)) })
+
+-- none is left: all are ready
+pub all-worked : {tasks : List Task} {cores rooms : List ℕ} {ready : List Bool} {r : Delayed} → Working tasks cores [] rooms ready
+    → r ≡ whole 0 → WorksAll tasks cores r rooms
+unfolding coresSaid
+all-worked w e =
+    rw e (record {
+      said = sym (w .same);
+      filled = λ z c m. ⊎-elim (λ x. absurd (List·Memᴰ·not-nil x)) (λ r. w .worked c r .filled) (w .passed c m);
+    })
+
+module _ (n : ℕ) (spots : List Spot) (i : ℕ) where
+  -- the cores from step i on: that of step i, and those behind it
+  pub core-here : i < n → n ≤ length spots
+      → drop i (coresIn n spots) ≡ getD spots i noSpot .core ∷ drop (i + 1) (coresIn n spots)
+  core-here h long =
+      let all : length (coresIn n spots) ≡ n = length-map (take n spots) (λ s. s .core) ∙ length-take-le n spots long in
+      let here : getD (coresIn n spots) i 0 ≡ getD spots i noSpot .core
+      = List·getD-map (λ s. s .core) (take n spots) i noSpot ∙ ap (λ (s : Spot). s .core) (getD-take n spots i noSpot h) in
+      drop-cons (coresIn n spots) i 0 (omega arith) ∙ rw (here, add-one)
+
+  -- past the last step none
+  pub no-core : n ≤ i → drop i (coresIn n spots) ≡ []
+  no-core h =
+      let all : length (coresIn n spots) ≤ i = omega (arith, length-map (take n spots) (λ s. s .core), length-take n spots) in
+      drop-of-length-le (coresIn n spots) all

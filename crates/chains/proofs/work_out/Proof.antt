@@ -1,0 +1,27 @@
+-- `chains::work_out` meets its contract: what analysis gives for the core stands in its part of the rooms. Assumes nothing.
+use borrow.Author.Needs.{needs}
+use Rattle.table.proofs.Rows.{length-mapped}
+use Rattle.chains.proofs.Rooms.{works}
+use Rattle.chains.proofs.work_out.Statement.{statement}
+use Rattle.chains.proofs.work_out.Tie as tie
+
+returns : tie.Need-returns
+returns c =
+    let call = c .before .before in
+    let s = call .before .before .before in
+    works (s .args .t) (search (needs, length-mapped)) (search needs) (s .pre .0) (s .args .core) (s .pre .1) _ (s .pre .2)
+    (call .analyse-table .ensures) (search needs)
+
+pub work-out-spec : {M : Type 1} → statement M
+work-out-spec =
+    tie.close
+    (tie.spec
+    (λ c. search needs)
+    (λ c. search needs)
+    (λ c. search needs)
+    (λ c. search needs)
+    (λ c. search needs)
+    (λ c. search needs)
+    (λ c κs. search needs)
+    (λ c. search needs)
+    returns)
