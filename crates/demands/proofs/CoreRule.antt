@@ -2,8 +2,9 @@
 use Prim.Native.Nat.{ℕ}
 use native.Mathlib.Omega.{arith}
 use borrow.Author.Tests.{lt-ltb, le-ltb}
-use mathlib.Core.Path.{_≡_, sym, subst}
+use mathlib.Core.Path.{_≡_, refl, sym, subst}
 use mathlib.Core.Logic.{_⊎_, inl, inr, ⊎-elim}
+use mathlib.Core.Bool.{false}
 use mathlib.Core.List.{List}
 use Rattle.lists.proofs.Tests.{either}
 use Rattle.model.specs.Task.{Task}
@@ -12,13 +13,14 @@ use Rattle.model.specs.Bounds.{CoreVerdict, passes, noWindow, misses, coreVerdi
 use Rattle.model.specs.Verdict.{AllWindows, Passes, Judged}
 use Rattle.model.proofs.Verdict.{verdict-says, judged-same}
 use Rattle.table.specs.declared.Verdict.{Verdict}
-use Rattle.table.specs.Verdicts.{codeOf}
+use Rattle.table.specs.declared.Verdict.the-variants as C
+use Rattle.table.specs.Verdicts.{codeOf, good}
 use Rattle.analysis.specs.Analysis.{needed, named, roomSaid, coreSaid}
 use Rattle.demands.specs.Rules.{RoomFor, CoreRule}
 
 module _ (core : ℕ) (rows : List Task) (room : ℕ) where
   -- with such a core and room enough the verdict decides
-  enough-said : RoomFor core rows room → (v : CoreVerdict) → coreVerdict rows ≡ v → coreSaid core rows room ≡ named v
+  pub enough-said : RoomFor core rows room → (v : CoreVerdict) → coreVerdict rows ≡ v → coreSaid core rows room ≡ named v
   unfolding coreSaid roomSaid
   enough-said e v same = rw (le-ltb 3 core (e .such), le-ltb room (needed rows) (e .fits), same)
 
@@ -57,6 +59,15 @@ module _ (core : ℕ) (rows : List Task) (room : ℕ) where
   said-rule d = let r = some-rule in subst (CoreRule core rows room) (sym (rule-said d (r .1))) (r .1)
 
   -- ---- by the code
+
+  -- a core's verdict is good, or its code is not 0
+  pub good-or-not : {v : Verdict} → CoreRule core rows room v → (v ≡ C.Good) ⊎ (good v ≡ false)
+  unfolding good
+  good-or-not (CoreRule.above h) = inr refl
+  good-or-not (CoreRule.short h k) = inr refl
+  good-or-not (CoreRule.window n w) = inr refl
+  good-or-not (CoreRule.late n m) = inr refl
+  good-or-not (CoreRule.passes n p) = inl refl
 
   -- 0: the core passes
   pub passes-code : {v : Verdict} → CoreRule core rows room v → codeOf v ≡ 0 → RoomFor core rows room × Passes rows

@@ -24,6 +24,7 @@ use Rattle.demands.proofs.Samples.{samples}
 use Rattle.demands.proofs.SampleB.{sample-b}
 use Rattle.demands.proofs.TextSamples.{text-samples}
 use Rattle.demands.proofs.Texts.{texts}
+use Rattle.demands.proofs.Chains.{chains}
 use Rattle.demands.proofs.Unique.{unique}
 
 -- of files
@@ -80,6 +81,7 @@ demands =
       files = files;
       sheets = sheets;
       texts = texts;
+      chains = chains;
       samples = worked;
       unique = unique;
     }

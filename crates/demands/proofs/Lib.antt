@@ -10,8 +10,10 @@ pub mod TextFault
 pub mod FieldRule
 pub mod TextReached
 pub mod TextRule
+pub mod ListRule
 pub mod CoreRule
 pub mod GoodFile
+pub mod ChainRule
 pub mod Tables
 pub mod Unique
 pub mod Answer
@@ -20,9 +22,11 @@ pub mod TableCodes
 pub mod Texts
 pub mod Placed
 pub mod Equations
+pub mod Delays
 pub mod Passed
 pub mod Demand2
 pub mod Demand3
+pub mod Chains
 pub mod Codes
 pub mod GoodRows
 pub mod AfterReading

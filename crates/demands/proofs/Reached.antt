@@ -35,11 +35,11 @@ unfolding fieldAt asked unless good
 stands-read {w = w} {at = at} {v = v} n = rw (n .number, may-good w at v (n .may))
 
 -- a number that was read stands there
-read-stands : (s : List ℕ) (w : Wanted) (at v next : ℕ) → fieldAt s w at ≡ go v next → Stands s w at v next
+pub read-stands : (s : List ℕ) (w : Wanted) (at v next : ℕ) → fieldAt s w at ≡ go v next → Stands s w at v next
 read-stands s w at v next e = let r = field-read s w at v next e in record { number = r .number; may = fine-may (r .fine) }
 
 -- so what stands in a file is what is read of it
-in-file : (s : List ℕ) → Agrees (Stands s) (fieldAt s)
+pub in-file : (s : List ℕ) → Agrees (Stands s) (fieldAt s)
 in-file s = record { read = stands-read; stands = read-stands s }
 
 -- ---- from the words to the reader

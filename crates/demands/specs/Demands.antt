@@ -22,6 +22,7 @@ use Rattle.demands.specs.Samples.{Samples}
 use Rattle.demands.specs.SampleB.{SampleB}
 use Rattle.demands.specs.TextSamples.{TextSamples}
 use Rattle.demands.specs.Texts.{Texts}
+use Rattle.demands.specs.Chains.{Chains}
 use Rattle.demands.specs.Unique.{Unique}
 
 -- files: what document 01 says of them beside the demands
@@ -80,6 +81,8 @@ pub record Demands : Type 0 where
   pub sheets : SheetClaims
   -- document 02, §1: a spreadsheet's text, read and written
   pub texts : Texts
+  -- document 02, §4: the delay along a chain, and what it means
+  pub chains : Chains
   pub samples : WorkedSamples
   -- each promise on lent memory allows one result
   pub unique : Unique

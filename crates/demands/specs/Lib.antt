@@ -7,6 +7,7 @@ pub mod Demand3
 pub mod Tables
 pub mod TextReached
 pub mod Texts
+pub mod Chains
 pub mod Unique
 pub mod Codes
 pub mod GoodTables
