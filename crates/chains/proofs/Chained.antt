@@ -3,10 +3,9 @@ use Prim.Native.Nat.{ℕ, suc, _+_, _≤_}
 use native.Mathlib.Omega.{arith}
 use mathlib.Core.Path.{_≡_, refl, sym, ap, _∙_}
 use mathlib.Core.List.{List, [], _∷_, _++_, map}
-use lib.ListN.{length, take, length-append}
+use lib.ListN.{length, length-append}
 use lib.Dec.{eqb, ltb}
-use lib.Seq.{length-take-le}
-use Rattle.lists.specs.Lists.{_∈_, pick}
+use Rattle.lists.specs.Lists.{_∈_}
 use Rattle.lists.proofs.Tests.{by-test, never}
 use Rattle.model.specs.Task.{Task, parts}
 use Rattle.model.specs.Bounds.{onCore}
@@ -17,7 +16,7 @@ use Rattle.table.specs.Verdicts.{codeOf, good}
 use Rattle.table.specs.Memory.{tasksOf}
 use Rattle.table.proofs.Codes.{is-good}
 use Rattle.fields.specs.Stepping.{Step, stop, go, _then_}
-use Rattle.fields.proofs.Taken.{stopped-not, then-read}
+use Rattle.fields.proofs.Taken.{then-read}
 use Rattle.fields.proofs.Honest.{Honest, stop-honest, go-honest, pick-honest, then-honest, honest-fault}
 use Rattle.chains.specs.declared.About.the-variants as A
 use Rattle.chains.specs.declared.Delayed.{Delayed}

@@ -1,5 +1,4 @@
 -- `chains::delay` meets its contract: the table is read, then the list, then the chain is worked out. Assumes nothing.
-use denote.Ref.{now}
 use borrow.Author.Needs.{needs}
 use mathlib.Core.Path.{_≡_, sym, _∙_}
 use Rattle.table.specs.Verdicts.{codeOf}
