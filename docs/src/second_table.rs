@@ -1,10 +1,10 @@
 //! The task table and its file, read and judged: what the second programs share.
 //! Written from the description alone.
 
-use std::io::Read;
-
 pub const MOST_ROWS: u64 = 64;
 pub const MOST_TIMES: u64 = 1_024;
+pub const MOST_ID: u64 = 65_535;
+pub const MOST_PARTS: u64 = 64;
 /// The largest period, deadline and time, and the limit of a window.
 pub const LIMIT: u64 = 16_777_215;
 /// Enough to judge any file.
@@ -29,6 +29,13 @@ pub struct Refusal {
     pub number: u64,
 }
 
+impl Refusal {
+    /// The line that says it of something.
+    pub fn line(&self, of: &str) -> String {
+        format!("{of} code {} number {}\n", self.code, self.number)
+    }
+}
+
 pub fn refuse<T>(code: u64, number: usize) -> Result<T, Refusal> {
     Err(Refusal {
         code,
@@ -36,24 +43,21 @@ pub fn refuse<T>(code: u64, number: usize) -> Result<T, Refusal> {
     })
 }
 
-/// Standard input, up to `most` bytes; a failing read leaves what came before it, and that is judged.
-pub fn input(most: u64) -> Vec<u8> {
-    let mut bytes = Vec::new();
-    let _ = std::io::stdin().take(most).read_to_end(&mut bytes);
-    bytes
-}
-
 // ---- The file ----
 
 /// The file's bytes and the offset reached.
-struct File<'a> {
+pub struct File<'a> {
     bytes: &'a [u8],
     at: usize,
 }
 
-impl File<'_> {
+impl<'a> File<'a> {
+    pub fn of(bytes: &'a [u8]) -> File<'a> {
+        File { bytes, at: 0 }
+    }
+
     /// The next number, in its range: codes 1, 2 and 3.
-    fn number(&mut self, least: u64, most: u64) -> Result<u64, Refusal> {
+    pub fn number(&mut self, least: u64, most: u64) -> Result<u64, Refusal> {
         let first = self.at;
         let value = self.any_number()?;
         if value < least || value > most {
@@ -82,10 +86,18 @@ impl File<'_> {
         refuse(2, first)
     }
 
+    /// Nothing follows: code 8.
+    pub fn end(&self) -> Result<(), Refusal> {
+        if self.at < self.bytes.len() {
+            return refuse(8, self.at);
+        }
+        Ok(())
+    }
+
     /// One row; `total` counts the times of all rows so far: code 7.
     fn row(&mut self, total: &mut u64) -> Result<Row, Refusal> {
         let mut row = Row {
-            id: self.number(1, 65_535)?,
+            id: self.number(1, MOST_ID)?,
             core: self.number(0, 3)?,
             kind: self.number(PREEMPTIVE, COOPERATIVE)?,
             priority: self.number(1, 255)?,
@@ -94,7 +106,7 @@ impl File<'_> {
             times: Vec::new(),
         };
         let offset = self.at;
-        let count = self.number(1, 64)?;
+        let count = self.number(1, MOST_PARTS)?;
         *total += count;
         if *total > MOST_TIMES {
             return refuse(7, offset);
@@ -108,16 +120,14 @@ impl File<'_> {
 
 /// The whole file: 1, 2, 3, 7 in file order, then 8, then 4, 5, 6.
 pub fn read(bytes: &[u8]) -> Result<Vec<Row>, Refusal> {
-    let mut file = File { bytes, at: 0 };
+    let mut file = File::of(bytes);
     let count = file.number(0, MOST_ROWS)?;
     let mut rows = Vec::new();
     let mut total = 0;
     for _ in 0..count {
         rows.push(file.row(&mut total)?);
     }
-    if file.at < bytes.len() {
-        return refuse(8, file.at);
-    }
+    file.end()?;
     no_clashes(&rows)?;
     Ok(rows)
 }

@@ -6,11 +6,13 @@
 //!
 //! What is good goes to standard output; of what is refused, one line goes to standard error.
 
+mod second_input;
 mod second_table;
 
+use second_input::input;
 use second_table::{
-    input, no_clashes, read, refuse, Refusal, Row, COOPERATIVE, FILE_LOOKED_AT, LIMIT, MOST_ROWS,
-    MOST_TIMES, PREEMPTIVE,
+    no_clashes, read, refuse, Refusal, Row, COOPERATIVE, FILE_LOOKED_AT, LIMIT, MOST_ID,
+    MOST_PARTS, MOST_ROWS, MOST_TIMES, PREEMPTIVE,
 };
 use std::io::Write;
 use std::process::ExitCode;
@@ -113,7 +115,7 @@ impl<'a> Text<'a> {
     /// One line; `total` counts the times of all rows so far: code 7, before the count's stop is judged.
     fn row(&mut self, total: &mut u64) -> Result<Row, Refusal> {
         let mut row = Row {
-            id: self.inner(1, 65_535)?,
+            id: self.inner(1, MOST_ID)?,
             core: self.inner(0, 3)?,
             kind: self.inner(PREEMPTIVE, COOPERATIVE)?,
             priority: self.inner(1, 255)?,
@@ -121,7 +123,7 @@ impl<'a> Text<'a> {
             deadline: self.inner(1, LIMIT)?,
             times: Vec::new(),
         };
-        let count = self.field(1, 64)?;
+        let count = self.field(1, MOST_PARTS)?;
         *total += count.value;
         if *total > MOST_TIMES {
             return refuse(7, count.first);
@@ -197,8 +199,8 @@ fn answer(what: &str, answer: Result<Vec<u8>, Refusal>) {
         Ok(bytes) => {
             let _ = std::io::stdout().write_all(&bytes);
         }
-        Err(Refusal { code, number }) => {
-            let _ = writeln!(std::io::stderr(), "{what} code {code} number {number}");
+        Err(refusal) => {
+            let _ = std::io::stderr().write_all(refusal.line(what).as_bytes());
         }
     }
 }
