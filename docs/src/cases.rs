@@ -7,7 +7,8 @@ use crate::good::{good, largest, FULL};
 use crate::numbers::{joined, numbers, FIELDS};
 use crate::table::{file, row, shortest, Row, LIMIT};
 
-fn hex(text: &str) -> Vec<u8> {
+/// Bytes out of hex, two digits each with spaces between them.
+pub fn hex(text: &str) -> Vec<u8> {
     text.split_whitespace()
         .filter_map(|byte| u8::from_str_radix(byte, 16).ok())
         .collect()

@@ -29,7 +29,11 @@ fn some_number(draws: &mut Draws, numbers: &[Number]) -> usize {
 /// Replaces a number by one that is too long or not in its shortest form.
 fn lengthen(draws: &mut Draws, numbers: &mut [Number]) {
     let place = some_number(draws, numbers);
-    let bytes = &mut numbers[place].bytes;
+    make_longer(draws, &mut numbers[place].bytes);
+}
+
+/// Makes the bytes of a number too many, or not its shortest form.
+pub fn make_longer(draws: &mut Draws, bytes: &mut Vec<u8>) {
     let wanted = draws.between(bytes.len() as u64 + 1, 6).max(2) as usize;
     if draws.one_in(4) {
         *bytes = vec![draws.pick(&[0x80, 0xFF]); wanted - 1];
@@ -44,13 +48,18 @@ fn lengthen(draws: &mut Draws, numbers: &mut [Number]) {
 fn put_outside(draws: &mut Draws, numbers: &mut [Number]) {
     let place = some_number(draws, numbers);
     let (_, least, most) = FIELDS[numbers[place].field];
+    numbers[place].bytes = outside(draws, least, most);
+}
+
+/// The bytes of a number outside its range.
+pub fn outside(draws: &mut Draws, least: u64, most: u64) -> Vec<u8> {
     let far = draws.any_size(most + 1, (1 << 28) - 1);
     let value = match draws.below(4) {
         0 | 1 if least > 0 => 0,
         2 => far,
         _ => most + 1,
     };
-    numbers[place].bytes = shortest(value);
+    shortest(value)
 }
 
 /// Makes rows clash, up to three times: id, priority, or type.
@@ -122,12 +131,12 @@ pub fn last_count(draws: &mut Draws, count: &[u8]) -> Vec<u8> {
     bytes
 }
 
-fn cut(draws: &mut Draws, mut bytes: Vec<u8>) -> Vec<u8> {
+pub fn cut(draws: &mut Draws, mut bytes: Vec<u8>) -> Vec<u8> {
     bytes.truncate(draws.below(bytes.len()));
     bytes
 }
 
-fn trail(draws: &mut Draws, mut bytes: Vec<u8>) -> Vec<u8> {
+pub fn trail(draws: &mut Draws, mut bytes: Vec<u8>) -> Vec<u8> {
     let length = draws.any_size(1, 6_000) as usize;
     let filler = draws.pick(&[0, 1, 0x80, 0xFF]);
     bytes.extend(vec![filler; length]);
@@ -159,6 +168,16 @@ fn several_faults(draws: &mut Draws) -> Vec<u8> {
 /// A good file with a few bytes changed, put in or taken out.
 fn flip(draws: &mut Draws) -> Vec<u8> {
     let mut bytes = file(&victim(draws));
+    change(draws, &mut bytes);
+    if quick(&rows_met(&bytes)) {
+        bytes
+    } else {
+        flip(draws)
+    }
+}
+
+/// Changes, puts in or takes out a few bytes.
+pub fn change(draws: &mut Draws, bytes: &mut Vec<u8>) {
     for _ in 0..draws.between(1, 3) {
         let place = draws.below(bytes.len());
         match draws.below(6) {
@@ -167,11 +186,6 @@ fn flip(draws: &mut Draws) -> Vec<u8> {
             2 => bytes[place] = draws.next() as u8,
             _ => bytes[place] ^= 1 << draws.below(8),
         }
-    }
-    if quick(&rows_met(&bytes)) {
-        bytes
-    } else {
-        flip(draws)
     }
 }
 

@@ -16,7 +16,7 @@ pub struct Shape {
 
 type Pair = (u64, u64);
 
-const fn shape(rows: Pair, parts: Pair, periods: Pair, load: Pair) -> Shape {
+pub const fn shape(rows: Pair, parts: Pair, periods: Pair, load: Pair) -> Shape {
     Shape {
         rows,
         parts,
