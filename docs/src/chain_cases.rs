@@ -57,6 +57,7 @@ fn set_a_cases() -> Vec<Case> {
         ("the same and rising", vec![(2, 1), (2, 1), (2, 2)]),
         ("rising and the same", vec![(2, 1), (2, 2), (2, 2)]),
         ("rising and falling", vec![(2, 1), (2, 2), (2, 1)]),
+        ("falling and rising", vec![(2, 2), (2, 1), (2, 2)]),
         ("rising twice", vec![(2, 1), (2, 2), (3, 1), (3, 2)]),
         ("32 steps", turns(&[(1, 1)], MOST_STEPS)),
         (

@@ -278,8 +278,12 @@ impl Coverage {
         for name in WANTED {
             println!("  {name}: {}", self.met.get(name).unwrap_or(&0));
         }
-        println!("drawn tables: {}", listed(&self.tables));
-        println!("drawn lists: {}", listed(&self.lists));
+        for (what, counts) in [("tables", &self.tables), ("lists", &self.lists)] {
+            println!("drawn {what} by kind:");
+            for (name, count) in counts {
+                println!("  {name}: {count}");
+            }
+        }
         println!("largest delay: {} ticks", self.largest);
         println!("cases without an answer: {}", self.unanswered);
         println!("draws that gave up, and took one row: {}", self.given_up);
@@ -298,9 +302,4 @@ fn comes_again(steps: &[Step]) -> bool {
         }
     }
     false
-}
-
-fn listed(counts: &Counts<&str>) -> String {
-    let counts = counts.iter().map(|(name, count)| format!("{name} {count}"));
-    counts.collect::<Vec<_>>().join(", ")
 }

@@ -77,7 +77,7 @@ fn wide(draws: &mut Draws) -> Vec<Row> {
     table
 }
 
-/// A light table with a row that asks for too much, or may take too little time.
+/// A light table with a row that asks for too much, or has too short a deadline.
 fn spoiled(draws: &mut Draws) -> Vec<Row> {
     let table = good(draws, &LIGHT);
     let mut changed = table.clone();
