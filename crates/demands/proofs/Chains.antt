@@ -11,7 +11,7 @@ use Rattle.lists.proofs.Tests.{never}
 use Rattle.model.specs.Task.{Task}
 use Rattle.model.specs.Chains.{Link, delay}
 use Rattle.machine.specs.Passing.{StepOf, OneTaskAnId}
-use Rattle.machine.proofs.Passing.{no-value-is-later}
+use Rattle.machine.proofs.Passing.{periodic-recurs, no-value-is-later}
 use Rattle.table.specs.declared.Verdict.{Verdict}
 use Rattle.table.specs.declared.Verdict.the-variants as C
 use Rattle.table.specs.Verdicts.{codeOf}
@@ -22,6 +22,7 @@ use Rattle.chains.specs.declared.About.the-variants as A
 use Rattle.chains.specs.declared.Delayed.{Delayed}
 use Rattle.chains.specs.Lists.{ChainStep}
 use Rattle.chains.specs.Chains.{refusal, whole, coreOf, coresSaid, chainIn, chainSaid, answerFor, delayAnswer}
+use Rattle.chains.proofs.Fronts.{list-of-the-front, table-of-the-front}
 use Rattle.demands.specs.Rules.{GoodFile}
 use Rattle.demands.specs.Chains.{WholeList, FirstRefused, AllPass, GoodChain, ChainRule, SumIs, ChainSays, Chains}
 use Rattle.demands.proofs.FileRule.{reading-fault, good-read, by-rule, file-rule}
@@ -160,4 +161,10 @@ module _ (s list : List ℕ) where
 
 -- for every table and list
 pub chains : Chains
-chains = chain-says
+chains =
+    record {
+      says = chain-says;
+      recurs = periodic-recurs;
+      listFront = list-of-the-front;
+      tableFront = table-of-the-front;
+    }

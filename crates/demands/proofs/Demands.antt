@@ -2,7 +2,9 @@
 use Rattle.model.proofs.MachineSample.{machine-sample}
 use Rattle.model.proofs.BegunSample.{begun-sample}
 use Rattle.model.proofs.Periodic.{periodic-allowed}
+use Rattle.model.proofs.ChainSample.{chain-sample}
 use Rattle.machine.proofs.NoRunIsLater.{no-run-is-later}
+use Rattle.machine.proofs.PassingSample.{passing-sample}
 use Rattle.files.proofs.Short.{good-file-is-short}
 use Rattle.files.proofs.Enough.{enough-to-judge}
 use Rattle.files.proofs.Unused.{unused-has-no-say}
@@ -23,6 +25,7 @@ use Rattle.demands.proofs.Printing.{printing}
 use Rattle.demands.proofs.Samples.{samples}
 use Rattle.demands.proofs.SampleB.{sample-b}
 use Rattle.demands.proofs.TextSamples.{text-samples}
+use Rattle.demands.proofs.ChainSamples.{chain-samples}
 use Rattle.demands.proofs.Texts.{texts}
 use Rattle.demands.proofs.Chains.{chains}
 use Rattle.demands.proofs.Unique.{unique}
@@ -64,8 +67,11 @@ worked =
       setA = set-a-report;
       sampleB = sample-b;
       texts = text-samples;
+      chains = chain-samples;
       machine = machine-sample;
       begun = begun-sample;
+      delays = chain-sample;
+      passing = passing-sample;
       periodic = periodic-allowed;
     }
 

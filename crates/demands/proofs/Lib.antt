@@ -35,4 +35,5 @@ pub mod Printing
 pub mod Samples
 pub mod Opened
 pub mod TextSamples
+pub mod ChainSamples
 pub mod Demands

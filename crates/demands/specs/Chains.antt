@@ -9,7 +9,7 @@ use Rattle.model.specs.Task.{Task, parts}
 use Rattle.model.specs.Bounds.{onCore}
 use Rattle.model.specs.Machine.{Run}
 use Rattle.model.specs.Chains.{Link}
-use Rattle.machine.specs.Passing.{AllAllowed, Recurs, Passes, nobody}
+use Rattle.machine.specs.Passing.{AllAllowed, Recurs, PeriodicRecurs, Passes, nobody}
 use Rattle.table.specs.declared.Verdict.{Verdict}
 use Rattle.table.specs.declared.Verdict.the-variants as C
 use Rattle.table.specs.Verdicts.{codeOf}
@@ -20,6 +20,7 @@ use Rattle.chains.specs.declared.About.the-variants as A
 use Rattle.chains.specs.declared.Delayed.{Delayed}
 use Rattle.chains.specs.Lists.{ChainStep, stepCount, stepsWanted, stepsFrom}
 use Rattle.chains.specs.Chains.{delayAnswer}
+use Rattle.chains.specs.Claims.{ListOfTheFront, TableOfTheFront}
 use Rattle.demands.specs.Reached.{Stands, Along}
 use Rattle.demands.specs.Rules.{NumberRule, FileRule, GoodFile, CoreRule}
 use Rattle.demands.specs.Equations.{IsWindow, IsBound}
@@ -163,6 +164,11 @@ pub record ChainSays (s list : List ℕ) (r : Delayed) : Type 0 where
       → ((l : Link) → l ∈ links → Recurs (runs (l .task .core)) (l .task) u)
       → Passes tasks runs nobody links u (u + r .delay)
 
--- so it is for every table and list
-abbrev pub Chains : Type 0
-Chains = (s list : List ℕ) → ChainSays s list (delayAnswer s list)
+-- for every table and list
+pub record Chains : Type 0 where
+  pub says : (s list : List ℕ) → ChainSays s list (delayAnswer s list)
+  -- tasks released exactly a period apart recur so, and such runs are allowed (`PeriodicAllowed`)
+  pub recurs : PeriodicRecurs
+  -- what the program reads of its two files is enough
+  pub listFront : ListOfTheFront
+  pub tableFront : TableOfTheFront

@@ -4,7 +4,9 @@
 -- offered to the crates above them alone; what the report program reads and writes, of which no contract can speak.
 use Rattle.model.specs.MachineSample.{PeriodicAllowed, MachineSample}
 use Rattle.model.specs.BegunSample.{BegunSample}
+use Rattle.model.specs.ChainSample.{ChainSample}
 use Rattle.machine.specs.NoRunIsLater.{NoRunIsLater}
+use Rattle.machine.specs.PassingSample.{PassingSample}
 use Rattle.files.specs.RoundTrips.{GoodFileIsShort, UnusedHasNoSay}
 use Rattle.files.specs.Enough.{EnoughToJudge}
 use Rattle.text.specs.Text.{Decimal, LinesAreTheText}
@@ -21,6 +23,7 @@ use Rattle.demands.specs.Printing.{Printing}
 use Rattle.demands.specs.Samples.{Samples}
 use Rattle.demands.specs.SampleB.{SampleB}
 use Rattle.demands.specs.TextSamples.{TextSamples}
+use Rattle.demands.specs.ChainSamples.{ChainSamples}
 use Rattle.demands.specs.Texts.{Texts}
 use Rattle.demands.specs.Chains.{Chains}
 use Rattle.demands.specs.Unique.{Unique}
@@ -54,14 +57,18 @@ pub record SheetClaims : Type 0 where
   pub refused : LineOfARefusal
   pub cut : LinesAreTheText
 
--- samples: those marked P, the machine's, a second table beside Set A, and texts
+-- samples: those marked P, the machine's, a second table beside Set A, texts and chains
 pub record WorkedSamples : Type 0 where
   pub marked : Samples
   pub setA : SetAReport
   pub sampleB : SampleB
   pub texts : TextSamples
+  pub chains : ChainSamples
   pub machine : MachineSample
   pub begun : BegunSample
+  -- delays on Set A, and a value on its way along a chain
+  pub delays : ChainSample
+  pub passing : PassingSample
   -- runs whose jobs come one period apart are allowed, so that demand 3 is about some run
   pub periodic : PeriodicAllowed
 

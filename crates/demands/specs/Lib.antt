@@ -16,4 +16,5 @@ pub mod SampleB
 pub mod Printing
 pub mod Samples
 pub mod TextSamples
+pub mod ChainSamples
 pub mod Demands
