@@ -40,7 +40,7 @@ module _ {s : List ℕ} {plain : Type 0} {form : ℕ → List ℕ} {one : Wanted
   unfolding fieldsAt
   in-two =
       ap (λ (ws : List Wanted). fieldsAt one ws [] at) (head-split used)
-      ∙ fields-append one (wanted lows highs) (partCount used ∷ []) [] at
+      ∙ fields-append one (wanted lows highs) (partCount used ∷ []) [] [] at
 
   -- a plain field is refused
   pub plain-stops : (v : Verdict) → fieldsAt one (wanted lows highs) [] at ≡ stop v → H.Refused v ≡ asHead (fieldsAt one (head used) [] at)

@@ -2,7 +2,7 @@
 use Prim.Native.Nat.{ℕ}
 use native.Mathlib.Omega.{arith}
 use mathlib.Core.Path.{_≡_, refl, sym, _∙_}
-use mathlib.Core.List.{List, [], _∷_, _++_}
+use mathlib.Core.List.{List, [], _∷_, _++_, append-assoc}
 use Rattle.table.specs.declared.Verdict.{Verdict}
 use Rattle.table.specs.Verdicts.{codeOf}
 use Rattle.table.specs.Fields.{Wanted}
@@ -35,18 +35,18 @@ refused-field (go w m) v e = let z : _≡_ {A = ℕ} 0 1 = cc in absurd (omega a
 
 -- numbers one after another, each read as `one` says
 module _ (one : Wanted → ℕ → Step ℕ) where
-  -- the first numbers wanted, and behind them the others
-  pub fields-append : (ws vs : List Wanted) (done : List ℕ) (at : ℕ)
-      → fieldsAt one (ws ++ vs) done at ≡ (fieldsAt one ws done at then λ numbers at. fieldsAt one vs numbers at)
+  -- the first numbers wanted, and behind them the others; `front` was read before
+  pub fields-append : (ws vs : List Wanted) (front done : List ℕ) (at : ℕ)
+      → fieldsAt one (ws ++ vs) (front ++ done) at ≡ (fieldsAt one ws done at then λ numbers at. fieldsAt one vs (front ++ numbers) at)
   unfolding fieldsAt _then_
-  fields-append [] vs done at = refl
-  fields-append (w ∷ ws) vs done at = by (one w at) (λ v n. fields-append ws vs (done ++ (v ∷ [])) n)
+  fields-append [] vs front done at = refl
+  fields-append (w ∷ ws) vs front done at = by (one w at) (λ v n. fields-append ws vs front (done ++ (v ∷ [])) n)
     where
       by : (x : Step ℕ)
           → ((v n : ℕ)
-          → fieldsAt one (ws ++ vs) (done ++ (v ∷ [])) n
-          ≡ (fieldsAt one ws (done ++ (v ∷ [])) n then λ numbers at. fieldsAt one vs numbers at))
-          → (x then λ value at. fieldsAt one (ws ++ vs) (done ++ (value ∷ [])) at)
-          ≡ ((x then λ value at. fieldsAt one ws (done ++ (value ∷ [])) at) then λ numbers at. fieldsAt one vs numbers at)
+          → fieldsAt one (ws ++ vs) (front ++ (done ++ (v ∷ []))) n
+          ≡ (fieldsAt one ws (done ++ (v ∷ [])) n then λ numbers at. fieldsAt one vs (front ++ numbers) at))
+          → (x then λ value at. fieldsAt one (ws ++ vs) ((front ++ done) ++ (value ∷ [])) at)
+          ≡ ((x then λ value at. fieldsAt one ws (done ++ (value ∷ [])) at) then λ numbers at. fieldsAt one vs (front ++ numbers) at)
       by (stop v) h = refl
-      by (go v n) h = h v n
+      by (go v n) h = rw append-assoc (h v n)

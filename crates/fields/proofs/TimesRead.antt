@@ -60,7 +60,7 @@ times-parted : (way : Way) (s : List ℕ) (k at : ℕ) → 1 ≤ k → timesBy w
 unfolding parted textTimes fieldsAt
 times-parted Seven s k at some =
     ap (λ (ws : List Wanted). fieldsAt (fieldAt s) ws [] at) (same-last k time some)
-    ∙ fields-append (fieldAt s) (replicate (k - 1) time) (time ∷ []) [] at
+    ∙ fields-append (fieldAt s) (replicate (k - 1) time) (time ∷ []) [] [] at
 times-parted Commas s k at some = refl
 
 -- the times of a row that were read: all but the last, then the last
