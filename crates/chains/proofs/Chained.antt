@@ -27,7 +27,7 @@ use Rattle.chains.specs.Lists.{ChainStep}
 use Rattle.chains.specs.Chains.{partAt, linkAt, linksAt, refusal, whole, saidOn, coresSaid, coreOf, chainSaid}
 use Rattle.analysis.specs.Analysis.{needed}
 use Rattle.chains.specs.Promises.{Spots, Finds, stepsIn, IsList, OnCores, coresIn, Filled, WorksAll, addedAt, sumBelow, Summable}
-use Rattle.chains.proofs.Listing.{steps-in}
+use Rattle.chains.proofs.Steps.{steps-in}
 use Rattle.chains.proofs.Rows.{Sound, tasks-each}
 use Rattle.chains.proofs.Rooms.{needed-few}
 use Rattle.chains.proofs.Delays.{cores-same, on-cores, summable, sum-is-delay}

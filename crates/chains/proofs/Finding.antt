@@ -1,64 +1,23 @@
 -- The steps of a list found in their table one by one: what was found so far, and what the definition says of the rest. Assumes nothing.
-use Prim.Native.Nat.{ℕ, zero, suc, _+_, _*_, _≤_, _<_}
+use Prim.Native.Nat.{ℕ, suc, _+_, _≤_, _<_}
 use native.Mathlib.Numerals.{add-one}
 use native.Mathlib.Omega.{arith}
-use mathlib.Core.Path.{_≡_, refl, ap, _∙_}
-use mathlib.Core.Logic.{_⊎_, inl, inr, ⊎-elim}
-use mathlib.Core.List.{List, [], _∷_, _++_, List·Memᴰ·head, Memᴰ·append-right}
-use lib.ListN.{length, getD, set, take, drop, replicate, length-append, length-set, take-append-drop, drop-of-length-le}
-use lib.Seq.{getD-set-same, getD-set-other, length-take-le}
-use Rattle.lists.specs.Lists.{_∈_, Place}
-use Rattle.lists.proofs.Places.{place-below}
-use Rattle.lists.proofs.Walks.{taken-more}
+use mathlib.Core.Path.{_≡_, refl, _∙_}
+use mathlib.Core.Logic.{⊎-elim}
+use mathlib.Core.List.{List, [], _∷_, _++_}
+use lib.ListN.{length, getD, set, drop, replicate, length-append, length-set}
+use lib.Seq.{getD-set-same, getD-set-other}
+use Rattle.lists.specs.Lists.{Place}
+use Rattle.lists.proofs.Pads.{fill-at}
+use Rattle.lists.proofs.Places.{place-below, place-snoc}
 use Rattle.model.specs.Task.{Task}
 use Rattle.model.specs.Chains.{Link}
 use Rattle.table.specs.declared.Verdict.{Verdict}
 use Rattle.fields.specs.Stepping.{stop, go, _then_}
 use Rattle.chains.specs.declared.Spot.{Spot}
-use Rattle.chains.specs.Lists.{ChainStep, stepsFrom}
+use Rattle.chains.specs.Lists.{ChainStep}
 use Rattle.chains.specs.Chains.{linkAt, linksAt}
 use Rattle.chains.specs.Promises.{IsSpot, Spots, noSpot}
-
--- ---- the steps of numbers
-
--- step i as the numbers have it
-abbrev pub stepAt : List ℕ → ℕ → ChainStep
-stepAt ns i = record { task = getD ns (2 * i) 0; part = getD ns (2 * i + 1) 0 }
-
--- a step is two numbers
-two-more : (i : ℕ) → 2 * suc i ≡ suc (suc (2 * i))
-two-more i = omega arith
-
--- so those from step i on are from number 2 i on
-steps-drop : (i : ℕ) (ns : List ℕ) → drop i (stepsFrom ns) ≡ stepsFrom (drop (2 * i) ns)
-unfolding stepsFrom
-steps-drop zero ns = refl
-steps-drop (suc i) [] = rw (two-more i)
-steps-drop (suc i) (n ∷ []) = rw (two-more i)
-steps-drop (suc i) (n ∷ m ∷ ns) = rw (two-more i) (steps-drop i ns)
-
-module _ (ns : List ℕ) (n : ℕ) (long : 2 * n ≤ length ns) (i : ℕ) where
-  -- the steps from step i on: that one, and the others
-  pub next-step : i < n → drop i (stepsFrom (take (2 * n) ns)) ≡ stepAt ns i ∷ drop (i + 1) (stepsFrom (take (2 * n) ns))
-  unfolding stepsFrom
-  next-step h =
-      let numbers : drop (2 * i) (take (2 * n) ns) ≡ getD ns (2 * i) 0 ∷ getD ns (2 * i + 1) 0 ∷ drop (2 * i + 1 + 1) (take (2 * n) ns)
-      = taken-more 0 (2 * n) ns (2 * i) (omega arith) long ∙ rw (taken-more 0 (2 * n) ns (2 * i + 1) (omega arith) long) in
-      let two : 2 * i + 1 + 1 ≡ 2 * (i + 1) = omega arith in
-      rw (steps-drop i, steps-drop (i + 1), numbers, two)
-
-  -- past the last there is none
-  pub no-step : n ≤ i → drop i (stepsFrom (take (2 * n) ns)) ≡ []
-  unfolding stepsFrom
-  no-step h =
-      let all : length (take (2 * n) ns) ≤ 2 * i = rw (length-take-le (2 * n) ns long) (omega arith) in
-      rw (steps-drop i, drop-of-length-le (take (2 * n) ns) all)
-
--- what the rest of a list begins with is of the list
-pub in-front : {A : Type 0} (xs : List A) (i : ℕ) {x : A} {rest : List A} → drop i xs ≡ x ∷ rest → x ∈ xs
-in-front xs i e = rw (← take-append-drop i xs, e) (Memᴰ·append-right (take i xs) (List·Memᴰ·head refl))
-
--- ---- what was found so far
 
 -- i steps are found, the rest is still to be looked for
 pub record Finding (tasks : List Task) (steps : List ChainStep) (spots : List Spot) (i : ℕ) : Type 0 where
@@ -75,23 +34,10 @@ none-found tasks steps =
     record {
       done = [];
       count = refl;
-      found = record { few = omega arith; spot = λ i l p. absurd p; none = λ i h. no-spots 33 i };
+      found = record { few = omega arith; spot = λ i l p. absurd p; none = λ i h. fill-at noSpot 33 i };
       long = refl;
       same = refl;
     }
-  where
-    no-spots : (n i : ℕ) → getD (replicate n noSpot) i noSpot ≡ noSpot
-    no-spots zero i = refl
-    no-spots (suc n) zero = refl
-    no-spots (suc n) (suc i) = no-spots n i
-
--- what stands in a list with one element more
-place-snoc : {A : Type 0} (xs : List A) (x : A) (j : ℕ) (y : A) → Place (xs ++ (x ∷ [])) j y → Place xs j y ⊎ ((j ≡ length xs) × (x ≡ y))
-unfolding Place
-place-snoc [] x zero y p = inr (refl, p)
-place-snoc [] x (suc j) y p = absurd p
-place-snoc (z ∷ xs) x zero y p = inl p
-place-snoc (z ∷ xs) x (suc j) y p = ⊎-elim (λ q. inl q) (λ q. inr (ap suc (q .0), q .1)) (place-snoc xs x j y p)
 
 -- one step more has its spot
 spots-more : {tasks : List Task} {done : List Link} {spots : List Spot} → Spots tasks done spots → length done < 32 → length spots ≡ 33

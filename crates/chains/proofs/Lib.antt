@@ -1,3 +1,5 @@
+pub mod Steps
+pub mod Stepping
 pub mod Listing
 pub mod Rows
 pub mod Indexing

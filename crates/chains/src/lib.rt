@@ -55,73 +55,11 @@ struct Found {
     spots: [Spot; 33],
 }
 
-// The largest number that a list may have at each place behind its count: a task id, a part, and so on.
-const HIGH: [u32; 64] = [
-    65535,
-    64,
-    65535,
-    64,
-    65535,
-    64,
-    65535,
-    64,
-    65535,
-    64,
-    65535,
-    64,
-    65535,
-    64,
-    65535,
-    64,
-    65535,
-    64,
-    65535,
-    64,
-    65535,
-    64,
-    65535,
-    64,
-    65535,
-    64,
-    65535,
-    64,
-    65535,
-    64,
-    65535,
-    64,
-    65535,
-    64,
-    65535,
-    64,
-    65535,
-    64,
-    65535,
-    64,
-    65535,
-    64,
-    65535,
-    64,
-    65535,
-    64,
-    65535,
-    64,
-    65535,
-    64,
-    65535,
-    64,
-    65535,
-    64,
-    65535,
-    64,
-    65535,
-    64,
-    65535,
-    64,
-    65535,
-    64,
-    65535,
-    64,
-];
+// The least that a step's two numbers may be: a task id, a part.
+const STEP_LOW: [u32; 2] = [1, 1];
+
+// The most that they may be.
+const STEP_HIGH: [u32; 2] = [65535, 64];
 
 // A refusal: the delay is 0.
 fn refused(about: About, verdict: Verdict) -> Delayed
@@ -184,30 +122,27 @@ fn read_steps(list: &[u8], at: usize, n: usize) -> Listed
     requires { ⌜ n ≤ 32 ⌝ }
     ensures { λ r. ⌜ r ≡ asListed (stepsAt (now (list .entry)) n at) ⌝ }
 {
-    let low = [1u32; 64];
-    let high = HIGH;
-    let m = 2 * n;
+    let low = STEP_LOW;
+    let high = STEP_HIGH;
     let mut numbers = [0u32; 64];
-    match fields::read_fields(
-        Way::Seven,
-        list,
-        at,
-        &low[..m],
-        &high[..m],
-        &mut numbers[..m],
-    ) {
-        Next::Refused(v) => no_list(v),
-        Next::At(end) => {
-            if end < list.len() {
-                return no_list(Verdict::Trailing(end));
-            }
-            let verdict = Verdict::Good;
-            Listed {
-                verdict,
-                count: n,
-                numbers,
-            }
+    let mut p = at;
+    let mut i = 0;
+    while i < n {
+        let a = 2 * i;
+        match fields::read_fields(Way::Seven, list, p, &low, &high, &mut numbers[a..a + 2]) {
+            Next::Refused(v) => return no_list(v),
+            Next::At(next) => p = next,
         }
+        i += 1;
+    }
+    if p < list.len() {
+        return no_list(Verdict::Trailing(p));
+    }
+    let verdict = Verdict::Good;
+    Listed {
+        verdict,
+        count: n,
+        numbers,
     }
 }
 

@@ -5,13 +5,15 @@ use borrow.Author.Needs.{needs}
 use mathlib.Core.Path.{_≡_, refl, sym}
 use mathlib.Core.List.{_∷_}
 use lib.ListN.{length, drop, take}
+use Rattle.lists.proofs.Drops.{in-front}
 use Rattle.table.specs.Memory.{tasksOf}
 use Rattle.table.proofs.Rows.{length-mapped}
 use Rattle.chains.specs.Lists.{ChainStep, stepsFrom}
 use Rattle.chains.specs.Promises.{stepsIn}
+use Rattle.chains.proofs.Steps.{stepAt, next-step, no-step}
 use Rattle.chains.proofs.Rows.{Sound, count-in}
 use Rattle.chains.proofs.Looking.{ids-taken, Looked, at-inside, no-task, no-part, link-is, spot-is}
-use Rattle.chains.proofs.Finding.{stepAt, next-step, no-step, Finding, none-found, one-found, not-found, all-found, in-front}
+use Rattle.chains.proofs.Finding.{Finding, none-found, one-found, not-found, all-found}
 use Rattle.chains.proofs.find_steps.Statement.{statement}
 use Rattle.chains.proofs.find_steps.Tie as tie
 
