@@ -19,27 +19,32 @@ use Rattle.chains.specs.Promises.{asListed, stepsIn}
 use Rattle.chains.proofs.Listing.{list-refused, list-chain}
 
 module _ (s : List ℕ) (f : Loaded) (read : f ≡ readAnswer s) where
+  -- it holds what was read
+  held : {x : Step (List Task)} → decode s ≡ x → f ≡ loaded x
+  unfolding readAnswer
+  held e = read ∙ ap loaded e
+
   -- a refused table is what is spoken of
   pub file-refused : (codeOf (f .verdict) ≡ 0 → ⊥) → (list : List ℕ) → refusal A.File (f .verdict) ≡ delayAnswer s list
-  unfolding readAnswer delayAnswer answerFor
+  unfolding delayAnswer answerFor
   file-refused bad list = of (decode s) refl
     where
       of : (x : Step (List Task)) → decode s ≡ x → refusal A.File (f .verdict) ≡ answerFor (decode s) list
-      of (stop v) e = rw (e, ap (λ (y : Loaded). y .verdict) (read ∙ ap loaded e))
-      of (go ts n) e = absurd (bad (ap (λ (y : Loaded). codeOf (y .verdict)) (read ∙ ap loaded e)))
+      of (stop v) e = rw (e, ap (λ (y : Loaded). y .verdict) (held e))
+      of (go ts n) e = absurd (bad (ap (λ (y : Loaded). codeOf (y .verdict)) (held e)))
 
   module _ (fine : codeOf (f .verdict) ≡ 0) (list : List ℕ) where
     -- of a good one the chain decides
     by-chain : delayAnswer s list ≡ chainSaid (tasksOf (f .table)) (chainIn (tasksOf (f .table)) list)
-    unfolding readAnswer delayAnswer answerFor
+    unfolding delayAnswer answerFor
     by-chain = of (decode s) refl
       where
         of : (x : Step (List Task)) → decode s ≡ x
             → answerFor (decode s) list ≡ chainSaid (tasksOf (f .table)) (chainIn (tasksOf (f .table)) list)
         of (stop v) e =
-            let own : f .verdict ≡ v = ap (λ (y : Loaded). y .verdict) (read ∙ ap loaded e) in
+            let own : f .verdict ≡ v = ap (λ (y : Loaded). y .verdict) (held e) in
             absurd (refused-not-0 v (stop-fault s v e) (sym (ap codeOf own) ∙ fine))
-        of (go ts n) e = rw (e, ap (λ (y : Loaded). tasksOf (y .table)) (read ∙ ap loaded e) ∙ tasks-stored ts)
+        of (go ts n) e = rw (e, ap (λ (y : Loaded). tasksOf (y .table)) (held e) ∙ tasks-stored ts)
 
     module _ (l : Listed) (listed : l ≡ asListed (listNumbers list)) where
       -- a refused list is what is spoken of

@@ -8,6 +8,7 @@ use lib.Dec.{eqb, ltb}
 use Rattle.lists.specs.Lists.{_∈_}
 use Rattle.lists.proofs.Tests.{by-test, never}
 use Rattle.model.specs.Task.{Task, parts}
+use Rattle.model.specs.Rows.{GoodTask}
 use Rattle.model.specs.Bounds.{onCore}
 use Rattle.model.specs.Chains.{Link, delay}
 use Rattle.table.specs.declared.Table.{Table}
@@ -15,7 +16,7 @@ use Rattle.table.specs.declared.Verdict.the-variants.{UnknownStep}
 use Rattle.table.specs.Verdicts.{codeOf, good}
 use Rattle.table.specs.Memory.{tasksOf}
 use Rattle.table.proofs.Codes.{is-good}
-use Rattle.fields.specs.Stepping.{Step, stop, go, _then_}
+use Rattle.fields.specs.Stepping.{Step, stop, go}
 use Rattle.fields.proofs.Taken.{then-read}
 use Rattle.fields.proofs.Honest.{Honest, stop-honest, go-honest, pick-honest, then-honest, honest-fault}
 use Rattle.chains.specs.declared.About.the-variants as A
@@ -122,17 +123,21 @@ module _ (t : Table) (l : Listed) (r : Found) (f : Finds (tasksOf t) (linksAt (t
           }
 
 module _ {t : Table} {l : Listed} {spots : List Spot} (k : Chained t l spots) where
-  -- each of its tasks is a good one
+  -- the table's tasks
   abbrev tasks : List Task
   tasks = tasksOf t
 
+  -- each is a good one
+  good-tasks : (u : Task) → u ∈ tasks → GoodTask u
+  good-tasks = tasks-each (k .sound)
+
   -- its cores, as the code goes through them
   its-cores : coresIn (l .count) spots ≡ map coreOf (k .links)
-  its-cores = rw (k .count) (cores-same (k .found) (tasks-each (k .sound)) (k .long))
+  its-cores = rw (k .count) (cores-same (k .found) good-tasks (k .long))
 
   -- are there
   pub cores-there : OnCores (l .count) spots
-  cores-there = rw (k .count) (on-cores (k .found) (tasks-each (k .sound)))
+  cores-there = rw (k .count) (on-cores (k .found) good-tasks)
 
   -- what the definition says of the chain
   its-answer : chainSaid tasks (linksAt tasks (stepsIn l) [] 0)
@@ -149,7 +154,7 @@ module _ {t : Table} {l : Listed} {spots : List Spot} (k : Chained t l spots) wh
     module _ (fine : codeOf (said .verdict) ≡ 0) (long : length rooms ≡ 4096) where
       -- else each core has room for its bounds
       few : (core : ℕ) → needed (onCore core tasks) ≤ 1024
-      few = needed-few t (k .sound .rows) (k .sound .times) (k .sound .fine)
+      few = needed-few (k .sound)
 
       -- and they are there
       cores-filled : (core : ℕ) → core ∈ map coreOf (k .links) → Filled tasks rooms core
@@ -157,14 +162,13 @@ module _ {t : Table} {l : Listed} {spots : List Spot} (k : Chained t l spots) wh
 
       -- so the steps can be summed
       pub can-sum : Summable (l .count) spots rooms
-      can-sum = rw (k .count) (summable (k .found) (tasks-each (k .sound)) long few cores-filled)
+      can-sum = rw (k .count) (summable (k .found) good-tasks long few cores-filled)
 
       -- and that is the answer
       pub chain-passes : (d : ℕ) → d ≡ sumBelow (addedAt spots rooms) (l .count)
           → whole d ≡ chainSaid tasks (linksAt tasks (stepsIn l) [] 0)
       chain-passes d e =
           let sum : sumBelow (addedAt spots rooms) (length (k .links)) ≡ delay tasks (k .links)
-          = sum-is-delay (k .found) (tasks-each (k .sound)) long few cores-filled in
+          = sum-is-delay (k .found) good-tasks long few cores-filled in
           let all : d ≡ delay tasks (k .links) = e ∙ rw (k .count) sum in
-          rw all (cores-pass tasks (delay tasks (k .links)) (coresIn (l .count) spots) (ap (λ (x : Delayed). codeOf (x .verdict)) (sym (w .said)) ∙ fine)
-          ∙ sym its-answer)
+          rw all (cores-pass tasks (delay tasks (k .links)) (coresIn (l .count) spots) (rw (w .said) at fine) ∙ sym its-answer)

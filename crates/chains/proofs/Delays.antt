@@ -5,9 +5,9 @@ use native.Mathlib.Omega.{arith}
 use borrow.Author.Tests.{eq-eqb, ne-eqb}
 use mathlib.Core.Path.{_≡_, refl, sym, ap, _∙_}
 use mathlib.Core.Bool.{Bool, _&&_}
-use mathlib.Core.List.{List, [], _∷_, map, Memᴰ·map}
-use lib.ListN.{length, getD, take, drop, length-map, length-drop, List·getD-map, drop-of-length-le}
-use lib.Seq.{ext-getD, getD-take, length-take-le}
+use mathlib.Core.List.{List, [], _∷_, map, Memᴰ·map, head-eq-of-cons-eq}
+use lib.ListN.{length, getD, take, drop, length-map, length-drop, drop-of-length-le}
+use lib.Seq.{ext-getD}
 use lib.Dec.{eqb, ltb}
 use Rattle.lists.specs.Lists.{_∈_, Place, pick, keep, each, total}
 use Rattle.lists.proofs.Tests.{by-test}
@@ -25,7 +25,8 @@ use Rattle.analysis.specs.Analysis.{needed, coreBounds}
 use Rattle.analysis.proofs.BoundsPut.{bounds-length}
 use Rattle.chains.specs.declared.Spot.{Spot}
 use Rattle.chains.specs.Chains.{coreOf}
-use Rattle.chains.specs.Promises.{startOf, noSpot, Spots, OnCores, coresIn, Filled, placeIn, addedAt, sumBelow, Summable}
+use Rattle.chains.specs.Promises.{startOf, IsSpot, noSpot, Spots, OnCores, coresIn, Filled, placeIn, addedAt, sumBelow, Summable}
+use Rattle.chains.proofs.Cores.{cores-length, core-at}
 
 -- a row's bound stands where its part says, behind those of the core's rows before it
 bound-at : (tasks : List Task) (at : ℕ) (t : Task) → Place tasks at t → (p : ℕ) → p < parts t
@@ -38,32 +39,37 @@ bound-at tasks at t l p h =
     (place-kept own (rowBounds rows) tasks at t l (eq-eqb (t .core) (t .core) refl) p (bound rows t p)
     (place-listed (bound rows t) (parts t) p h))
 
--- lists that are the same begin with the same
-first-same : {l m : Link} {ls ms : List Link} → l ∷ ls ≡ m ∷ ms → l ≡ m
-first-same e = cc
-
 module _ {tasks : List Task} {links : List Link} {spots : List Spot} (k : Spots tasks links spots)
     (good : (t : Task) → t ∈ tasks → GoodTask t) where
   -- step i is inside the chain
   module _ (i : ℕ) (l : Link) (here : Place links i l) where
+    -- what is kept of it
+    abbrev kept : IsSpot tasks l (getD spots i noSpot)
+    kept = k .spot i l here
+
+    -- where its bound is among its core's
+    abbrev its-place : ℕ
+    its-place = startOf tasks (kept .at) (l .task) + l .part
+
     -- its task is one of the table's
     its-task : GoodTask (l .task)
-    its-task = good (l .task) (place-in tasks (k .spot i l here .at) (l .task) (k .spot i l here .row))
+    its-task = good (l .task) (place-in tasks (kept .at) (l .task) (kept .row))
 
-    -- its core, its task id, its part and its period are these
+    -- its core is that of its task
     its-core : getD spots i noSpot .core ≡ l .task .core
-    its-core = ap (λ (s : Spot). s .core) (k .spot i l here .is)
+    its-core = ap (λ (s : Spot). s .core) (kept .is)
 
-    its-place : placeIn (getD spots i noSpot) ≡ l .task .core * 1024 + (startOf tasks (k .spot i l here .at) (l .task) + l .part)
-    its-place = ap placeIn (k .spot i l here .is) ∙ add-assoc _ _ _
+    -- so is its place in the rooms
+    in-core : placeIn (getD spots i noSpot) ≡ l .task .core * 1024 + its-place
+    in-core = ap placeIn (kept .is) ∙ add-assoc _ _ _
 
-    -- its bound stands among its core's
-    its-bound : Place (coreBounds (onCore (l .task .core) tasks)) (startOf tasks (k .spot i l here .at) (l .task) + l .part) (boundOf tasks l)
+    -- its bound stands there
+    its-bound : Place (coreBounds (onCore (l .task .core) tasks)) its-place (boundOf tasks l)
     unfolding boundOf
-    its-bound = bound-at tasks (k .spot i l here .at) (l .task) (k .spot i l here .row) (l .part) (k .spot i l here .inside)
+    its-bound = bound-at tasks (kept .at) (l .task) (kept .row) (l .part) (kept .inside)
 
-    -- which are as many as the core's parts
-    its-inside : startOf tasks (k .spot i l here .at) (l .task) + l .part < needed (onCore (l .task .core) tasks)
+    -- among as many as the core's parts
+    its-inside : its-place < needed (onCore (l .task .core) tasks)
     unfolding needed coreBounds
     its-inside =
         let rows = onCore (l .task .core) tasks in
@@ -71,20 +77,18 @@ module _ {tasks : List Task} {links : List Link} {spots : List Spot} (k : Spots 
 
   -- the cores of its steps are those of the chain, in order
   pub cores-same : length spots ≡ 33 → coresIn (length links) spots ≡ map coreOf links
-  cores-same long = ext-getD 0 _ _ same-length (λ i h. by i (rw length-map at h))
+  cores-same long = ext-getD 0 _ _ (all ∙ sym (length-map links coreOf)) (λ i h. by i (rw all at h))
     where
-      first : length (take (length links) spots) ≡ length links
-      first = length-take-le (length links) spots (omega (arith, k .few))
+      room : length links ≤ length spots
+      room = omega (arith, k .few)
 
-      same-length : length (coresIn (length links) spots) ≡ length (map coreOf links)
-      same-length = rw (length-map, length-map) first
+      all : length (coresIn (length links) spots) ≡ length links
+      all = cores-length (length links) spots room
 
-      by : (i : ℕ) → i < length (take (length links) spots) → getD (coresIn (length links) spots) i 0 ≡ getD (map coreOf links) i 0
+      by : (i : ℕ) → i < length links → getD (coresIn (length links) spots) i 0 ≡ getD (map coreOf links) i 0
       by i h =
-          let inside : i < length links = omega (arith, first) in
-          let w = place-some links i inside in
-          List·getD-map (λ (s : Spot). s .core) (take (length links) spots) i noSpot
-          ∙ rw (getD-take (length links) spots i noSpot inside, place-map coreOf links i (w .0) (w .1)) (its-core i (w .0) (w .1))
+          let w = place-some links i h in
+          core-at (length links) spots room i h ∙ its-core i (w .0) (w .1) ∙ sym (place-map coreOf links i (w .0) (w .1))
 
   -- at most 3
   pub on-cores : OnCores (length links) spots
@@ -101,7 +105,7 @@ module _ {tasks : List Task} {links : List Link} {spots : List Spot} (k : Spots 
     in-rooms i l here =
         let core = l .task .core in
         let on = filled core (Memᴰ·map coreOf (place-in links i l here)) in
-        ap (λ (n : ℕ). getD rooms n 0) (its-place i l here)
+        ap (λ (n : ℕ). getD rooms n 0) (in-core i l here)
         ∙ on .bound _ (its-inside i l here)
         ∙ place-at 0 (coreBounds (onCore core tasks)) _ _ (its-bound i l here)
 
@@ -119,7 +123,7 @@ module _ {tasks : List Task} {links : List Link} {spots : List Spot} (k : Spots 
         by-inside : (i : ℕ) → (l : Link) × Place links i l → placeIn (getD spots i noSpot) < length rooms
         by-inside i w =
             let core = w .0 .task .core in
-            omega (arith, its-place i (w .0) (w .1), its-inside i (w .0) (w .1), few core, its-task i (w .0) (w .1) .core .most)
+            omega (arith, in-core i (w .0) (w .1), its-inside i (w .0) (w .1), few core, its-task i (w .0) (w .1) .core .most)
 
         by-period : (i : ℕ) → (l : Link) × Place links i l → getD spots i noSpot .period ≤ 16777215
         by-period i w =
@@ -149,7 +153,7 @@ module _ {tasks : List Task} {links : List Link} {spots : List Spot} (k : Spots 
             rw (adds i l here noSpot (k .none (suc i) past), ne-eqb (l .task .id) 0 other)
         by (m ∷ ls) e =
             let w = place-some links (suc i) (omega (arith, length-drop (suc i) links, ap length e)) in
-            let same : m ≡ w .0 = first-same (sym e ∙ place-drop links (suc i) (w .0) (w .1)) in
+            let same : m ≡ w .0 = head-eq-of-cons-eq (sym e ∙ place-drop links (suc i) (w .0) (w .1)) in
             let mine = adds i l here _ (k .spot (suc i) (w .0) (w .1) .is) in
             by-test (eqb (l .task .id) (m .task .id) && ltb (l .part) (m .part))
             (λ t. rw (mine, ← same, t) (zero-add _))

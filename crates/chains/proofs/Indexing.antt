@@ -3,16 +3,17 @@ use Prim.Native.Nat.{ℕ, _+_, _*_, _≤_, _<_}
 use native.Mathlib.Numerals.{add-one}
 use native.Mathlib.Omega.{arith}
 use borrow.Author.Count.{below-more}
-use borrow.Author.Tests.{eqb-true, eqb-false, eq-eqb, ne-eqb}
+use borrow.Author.Tests.{eq-eqb, ne-eqb}
 use mathlib.Core.Path.{_≡_, refl, sym, ap, _∙_}
+use mathlib.Core.Logic.{⊎-elim}
 use mathlib.Core.List.{List}
 use lib.Dec.{eqb}
 use lib.ListN.{length, getD, set, take, replicate, length-set, getD-replicate}
 use lib.Seq.{getD-set-same, getD-set-other}
 use Rattle.lists.specs.Lists.{Place, total}
-use Rattle.lists.proofs.Tests.{by-test}
 use Rattle.lists.proofs.Drops.{place-drop, place-take}
 use Rattle.lists.proofs.Places.{place-below}
+use Rattle.lists.proofs.Stores.{set-cases}
 use Rattle.lists.proofs.Keep.{keep-snoc}
 use Rattle.lists.proofs.Totals.{total-snoc}
 use Rattle.model.specs.Task.{Task, parts}
@@ -71,16 +72,12 @@ module _ (tasks : List Task) (i : ℕ) (u : Task) (p : Place tasks i u) where
   sum-more : (used : List ℕ) → u .core < length used → parts u ≤ 64 → ((c : ℕ) → c < 4 → Sum tasks i c (getD used c 0)) → (c : ℕ) → c < 4
       → Sum tasks (i + 1) c (getD (set used (u .core) (getD used (u .core) 0 + parts u)) c 0)
   sum-more used inside few sums c h =
-      by-test (eqb c (u .core))
-      (λ y.
-      (let own : c ≡ u .core = eqb-true c (u .core) y in
-      let s : Sum tasks i (u .core) (getD used (u .core) 0) = sums (u .core) (omega arith) in
-      rw (own, getD-set-same used (u .core) (getD used (u .core) 0 + parts u) 0 inside)
-      (record { is = rw (s .is) (sym own-more); small = omega (arith, s .small) })))
-      (λ n.
-      (let other : c ≡ u .core → ⊥ = eqb-false c (u .core) n in
-      rw (getD-set-other used (u .core) c (getD used (u .core) 0 + parts u) 0 other)
-      (record { is = sums c h .is ∙ sym (other-same c other); small = omega (arith, sums c h .small) })))
+      ⊎-elim
+      (λ own.
+      (let s : Sum tasks i (u .core) (getD used (u .core) 0) = sums (u .core) (omega arith) in
+      rw (own .1, own .0) (record { is = rw (s .is) (sym own-more); small = omega (arith, s .small) })))
+      (λ other. rw (other .1) (record { is = sums c h .is ∙ sym (other-same c (other .0)); small = omega (arith, sums c h .small) }))
+      (set-cases 0 used (u .core) (getD used (u .core) 0 + parts u) c inside)
 
   -- a number of it is stored
   told-more : (f : ℕ → Task → ℕ) (ns : List ℕ) (n : ℕ) → Told tasks f ns i → i < length ns → n ≡ f i u

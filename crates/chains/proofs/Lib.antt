@@ -6,6 +6,7 @@ pub mod Indexing
 pub mod Looking
 pub mod Finding
 pub mod Rooms
+pub mod Cores
 pub mod Working
 pub mod Adding
 pub mod Delays

@@ -14,12 +14,12 @@ use Rattle.model.specs.Chains.{Link}
 use Rattle.table.specs.declared.Row.{Row}
 use Rattle.table.specs.declared.Table.{Table}
 use Rattle.table.specs.declared.Verdict.the-variants.{UnknownStep}
-use Rattle.table.specs.Memory.{zeroRow, tasksOf}
+use Rattle.table.specs.Memory.{tasksOf}
 use Rattle.fields.specs.Stepping.{stop, go}
 use Rattle.chains.specs.Lists.{ChainStep}
 use Rattle.chains.specs.Chains.{partAt, linkAt}
 use Rattle.chains.specs.Promises.{FirstAt, Indexed, IsSpot}
-use Rattle.chains.proofs.Rows.{Sound, TaskAt, tasks-count, count-in, task-at}
+use Rattle.chains.proofs.Rows.{Sound, rowAt, TaskAt, tasks-count, count-in, task-at}
 
 -- the tasks that have another id are passed over
 passed : (s : ChainStep) (n : ℕ) (tasks : List Task) (at : ℕ) → ((j : ℕ) (v : Task) → j < at → Place tasks j v → v .id ≡ s .task → ⊥)
@@ -40,10 +40,6 @@ pub record Looked (t : Table) (ids starts : List ℕ) (s : ChainStep) (at : ℕ)
   pub index : Indexed (tasksOf t) ids starts
   pub long : length ids ≡ 64
   pub first : FirstAt (s .task) (take (t .count) ids) at
-
--- the row there
-abbrev rowAt : Table → ℕ → Row
-rowAt t at = getD (t .rows) at zeroRow
 
 module _ {t : Table} {ids starts : List ℕ} {s : ChainStep} {at : ℕ} (k : Looked t ids starts s at) where
   -- what the index has at a task's place

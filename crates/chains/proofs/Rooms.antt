@@ -1,18 +1,18 @@
 -- One core's bounds in its part of the rooms, from what analysis gives for it. Assumes nothing.
-use Prim.Native.Nat.{ℕ, suc, _+_, _-_, _*_, _≤_, _<_}
+use Prim.Native.Nat.{ℕ, _+_, _-_, _*_, _≤_, _<_}
 use native.Mathlib.Omega.{arith}
 use borrow.Author.Tests.{le-ltb}
-use mathlib.Core.Path.{_≡_, refl, sym, ap, _∙_}
-use mathlib.Core.List.{List, [], _∷_, _++_}
+use mathlib.Core.Path.{_≡_, sym, ap, _∙_}
+use mathlib.Core.List.{List, _++_}
 use mathlib.Core.Logic.{_⊎_, inl, inr, ⊎-elim}
 use lib.Dec.{eqb}
-use lib.ListN.{length, getD, set, take, drop, List·getD-append}
-use lib.Seq.{sets, length-sets, getD-set-other, getD-take, getD-append-add, length-take-le}
+use lib.ListN.{length, getD, take, drop, List·getD-append}
+use lib.Seq.{sets, length-sets}
 use Rattle.lists.specs.Lists.{over}
 use Rattle.lists.proofs.Tests.{either}
 use Rattle.lists.proofs.Parts.{part-length}
 use Rattle.lists.proofs.Splices.{splice-sets}
-use Rattle.lists.proofs.Stores.{take-sets}
+use Rattle.lists.proofs.Stores.{sets-at, sets-other}
 use Rattle.lists.proofs.Walks.{keep-total}
 use Rattle.model.specs.Task.{Task, parts}
 use Rattle.model.specs.Bounds.{onCore}
@@ -30,50 +30,31 @@ use Rattle.analysis.proofs.Given.{gives-same, answered-verdict}
 use Rattle.analysis.proofs.BoundsPut.{bounds-length}
 use Rattle.chains.specs.Chains.{saidOn}
 use Rattle.chains.specs.Promises.{Filled, Works}
-
--- ---- what is stored in a part of a list
-
--- stands there
-sets-at : (l vs : List ℕ) (i k : ℕ) → i + length vs ≤ length l → k < length vs → getD (sets l i vs) (i + k) 0 ≡ getD vs k 0
-sets-at l vs i k fits h =
-    let front : length (take i l) ≡ i = length-take-le i l (omega arith) in
-    sym (getD-take (i + length vs) (sets l i vs) (i + k) 0 (omega arith))
-    ∙ ap (λ (xs : List ℕ). getD xs (i + k) 0) (take-sets l i vs fits)
-    ∙ (rw front at (getD-append-add (take i l) vs k 0))
-
--- and leaves the other places
-sets-other : (l vs : List ℕ) (i p : ℕ) → (p < i) ⊎ (i + length vs ≤ p) → getD (sets l i vs) p 0 ≡ getD l p 0
-sets-other l [] i p h = refl
-sets-other l (v ∷ vs) i p h =
-    let later : (p < suc i) ⊎ (suc i + length vs ≤ p) = ⊎-elim (λ x. inl (omega arith)) (λ x. inr (omega arith)) h in
-    sets-other (set l i v) vs (suc i) p later
-    ∙ getD-set-other l i p v 0 (λ e. ⊎-elim (λ x. omega arith) (λ x. omega arith) h)
+use Rattle.chains.proofs.Rows.{Sound}
 
 -- places of two cores are apart
 apart : (c core k : ℕ) → (c ≡ core → ⊥) → k < 1024 → (c * 1024 + k < core * 1024) ⊎ (core * 1024 + 1024 ≤ c * 1024 + k)
 apart c core k n h = ⊎-elim (λ x. inl (omega arith)) (λ x. inr (omega arith)) (either c core)
 
--- ---- what analysis leaves
-
--- with code 0 the bounds, one for each part
+-- with code 0 analysis leaves the bounds, one for each part
 after-good : (v : Verdict) (rows : List Task) (room : List ℕ) → codeOf v ≡ 0 → (k : ℕ) → k < needed rows
     → getD (roomAfter v rows room) k 0 ≡ getD (coreBounds rows) k 0
 unfolding roomAfter writes over needed coreBounds
 after-good v rows room e k h = rw e (List·getD-append (coreBounds rows) _ 0 k (omega (arith, bounds-length rows rows)))
 
--- a table in memory has 64 rows and 1,024 times, by its type
-module _ (t : Table) (rows : length (t .rows) ≡ 64) (times : length (t .times) ≡ 1024) (fine : codeOf (faultOf t) ≡ 0) where
+module _ {t : Table} (s : Sound t) where
   -- each core's bounds have room in its part
   pub needed-few : (core : ℕ) → needed (onCore core (tasksOf t)) ≤ 1024
   unfolding needed onCore
   needed-few core =
-      omega (arith, keep-total parts (λ u. eqb (u .core) core) (tasksOf t), times-count (tasksOf t), good-ahead t rows times fine .room)
+      let room = good-ahead t (s .rows) (s .times) (s .fine) .room in
+      omega (arith, keep-total parts (λ u. eqb (u .core) core) (tasksOf t), times-count (tasksOf t))
 
   -- so good, 11 or 12 is said
   said-here : (core room : ℕ) → core ≤ 3 → room ≡ 1024 → tableSaid t core room ≡ saidOn (tasksOf t) core
   unfolding tableSaid coreSaid roomSaid saidOn
   said-here core room h e =
-      or-good (faultOf t) _ fine ∙ rw (e, le-ltb 3 core h, le-ltb 1024 (needed (onCore core (tasksOf t))) (needed-few core))
+      or-good (faultOf t) _ (s .fine) ∙ rw (e, le-ltb 3 core h, le-ltb 1024 (needed (onCore core (tasksOf t))) (needed-few core))
 
   module _ (core : ℕ) (small : core ≤ 3) (rooms : List ℕ) (long : length rooms ≡ 4096) where
     -- where the core's part begins
@@ -103,7 +84,7 @@ module _ (t : Table) (rows : length (t .rows) ≡ 64) (times : length (t .times)
       own-bounds e =
           record {
             bound = λ k h.
-                sets-at rooms part from k (omega (arith, part-long)) (omega (arith, part-long, needed-few core))
+                sets-at 0 rooms from part k (omega (arith, part-long)) (omega (arith, part-long, needed-few core))
                 ∙ ap (λ (xs : List ℕ). getD xs k 0) (gives .left)
                 ∙ after-good (saidOn (tasksOf t) core) (onCore core (tasksOf t)) lent (sym (ap codeOf verdict) ∙ e) k h;
           }
@@ -113,7 +94,7 @@ module _ (t : Table) (rows : length (t .rows) ≡ 64) (times : length (t .times)
       other-bounds c n f =
           record {
             bound = λ k h.
-                sets-other rooms part from (c * 1024 + k) (rw part-long (apart c core k n (omega (arith, needed-few c)))) ∙ f .bound k h;
+                sets-other 0 rooms from part (c * 1024 + k) (rw part-long (apart c core k n (omega (arith, needed-few c)))) ∙ f .bound k h;
           }
 
       -- the core is worked out

@@ -1,28 +1,25 @@
 -- Cores worked out in step order, each once: what is said of them, and that the bounds of those that are ready stand in the rooms.
 -- Assumes nothing.
-use Prim.Native.Nat.{ℕ, _+_, _≤_, _<_}
-use native.Mathlib.Numerals.{add-one}
+use Prim.Native.Nat.{ℕ, _≤_}
 use native.Mathlib.Omega.{arith}
-use borrow.Author.Tests.{eqb-true, eqb-false}
 use mathlib.Core.Path.{_≡_, refl, sym, ap, _∙_}
 use mathlib.Core.Bool.{Bool, true, false}
 use mathlib.Core.List.{List, [], _∷_, List·Memᴰ·not-nil, List·Memᴰ·cases-cons}
 use mathlib.Core.Logic.{_⊎_, inl, inr, ⊎-elim}
-use lib.Dec.{eqb}
-use lib.ListN.{length, getD, set, take, drop, replicate, length-set, length-map, length-take, drop-of-length-le, getD-replicate}
-use lib.ListN.{List·getD-map, List·getD-eq-default}
-use lib.Seq.{drop-cons, getD-take, length-take-le, getD-set-same, getD-set-other}
+use lib.ListN.{length, getD, set, replicate, length-set}
+use lib.Seq.{getD-set-same}
 use Rattle.lists.specs.Lists.{_∈_}
-use Rattle.lists.proofs.Tests.{by-test, never, either}
+use Rattle.lists.proofs.Tests.{never}
+use Rattle.lists.proofs.Pads.{fill-at}
+use Rattle.lists.proofs.Stores.{set-cases}
 use Rattle.model.specs.Task.{Task}
 use Rattle.table.specs.declared.Verdict.{Verdict}
 use Rattle.table.specs.Verdicts.{codeOf, good}
 use Rattle.table.proofs.Codes.{is-good, is-fault}
 use Rattle.chains.specs.declared.About.the-variants as A
 use Rattle.chains.specs.declared.Delayed.{Delayed}
-use Rattle.chains.specs.declared.Spot.{Spot}
 use Rattle.chains.specs.Chains.{refusal, whole, saidOn, coresSaid}
-use Rattle.chains.specs.Promises.{noSpot, coresIn, Filled, Works, WorksAll}
+use Rattle.chains.specs.Promises.{Filled, Works, WorksAll}
 
 -- a core that was worked out: it is good, and its bounds are there
 pub record Ready (tasks : List Task) (rooms : List ℕ) (core : ℕ) : Type 0 where
@@ -37,14 +34,10 @@ pub record Working (tasks : List Task) (cores left : List ℕ) (rooms : List ℕ
   pub worked : (c : ℕ) → getD ready c false ≡ true → Ready tasks rooms c
   pub passed : (c : ℕ) → c ∈ cores → (c ∈ left) ⊎ (getD ready c false ≡ true)
 
--- no core is ready at first
-none-ready : (c : ℕ) → getD (replicate 4 false) c false ≡ false
-none-ready c = ⊎-elim (getD-replicate 4 c false false) (List·getD-eq-default (replicate 4 false) false) (either c 4)
-
--- so all are left
+-- at first none is ready, so all are left
 pub none-worked : (tasks : List Task) (cores rooms : List ℕ) → length rooms ≡ 4096 → Working tasks cores cores rooms (replicate 4 false)
 none-worked tasks cores rooms long =
-    record { four = refl; long = long; same = refl; worked = λ c e. absurd (never e (none-ready c)); passed = λ c m. inl m }
+    record { four = refl; long = long; same = refl; worked = λ c e. absurd (never e (fill-at false 4 c)); passed = λ c m. inl m }
 
 -- a core is worked out and good
 module _ {tasks : List Task} {cores left rooms : List ℕ} {ready : List Bool} (w : Working tasks cores left rooms ready)
@@ -52,10 +45,7 @@ module _ {tasks : List Task} {cores left rooms : List ℕ} {ready : List Bool} (
   -- its own mark is set, and the others' stay
   marks : (c : ℕ) → ((c ≡ core) × (getD (set ready core true) c false ≡ true))
       ⊎ ((c ≡ core → ⊥) × (getD (set ready core true) c false ≡ getD ready c false))
-  marks c =
-      by-test (eqb c core)
-      (λ y. (let q = eqb-true c core y in inl (q, rw q (getD-set-same ready core true false (omega (arith, w .four))))))
-      (λ n. (let q = eqb-false c core n in inr (q, getD-set-other ready core c true false q)))
+  marks c = set-cases false ready core true c (omega (arith, w .four))
 
   -- so every core that is marked is ready
   ready-now : (c : ℕ) → getD (set ready core true) c false ≡ true → Ready tasks rooms′ c
@@ -111,19 +101,3 @@ all-worked w e =
       said = sym (w .same);
       filled = λ z c m. ⊎-elim (λ x. absurd (List·Memᴰ·not-nil x)) (λ r. w .worked c r .filled) (w .passed c m);
     })
-
-module _ (n : ℕ) (spots : List Spot) (i : ℕ) where
-  -- the cores from step i on: that of step i, and those behind it
-  pub core-here : i < n → n ≤ length spots
-      → drop i (coresIn n spots) ≡ getD spots i noSpot .core ∷ drop (i + 1) (coresIn n spots)
-  core-here h long =
-      let all : length (coresIn n spots) ≡ n = length-map (take n spots) (λ s. s .core) ∙ length-take-le n spots long in
-      let here : getD (coresIn n spots) i 0 ≡ getD spots i noSpot .core
-      = List·getD-map (λ s. s .core) (take n spots) i noSpot ∙ ap (λ (s : Spot). s .core) (getD-take n spots i noSpot h) in
-      drop-cons (coresIn n spots) i 0 (omega arith) ∙ rw (here, add-one)
-
-  -- past the last step none
-  pub no-core : n ≤ i → drop i (coresIn n spots) ≡ []
-  no-core h =
-      let all : length (coresIn n spots) ≤ i = omega (arith, length-map (take n spots) (λ s. s .core), length-take n spots) in
-      drop-of-length-le (coresIn n spots) all

@@ -10,7 +10,8 @@ use lib.ListN.{length, getD, drop}
 use Rattle.table.specs.Memory.{tasksOf}
 use Rattle.table.proofs.Rows.{length-mapped}
 use Rattle.chains.specs.Promises.{noSpot, coresIn}
-use Rattle.chains.proofs.Working.{Working, none-worked, passing, next, halts, all-worked, core-here, no-core}
+use Rattle.chains.proofs.Cores.{core-here, no-core}
+use Rattle.chains.proofs.Working.{Working, none-worked, passing, next, halts, all-worked}
 use Rattle.chains.proofs.work_out_all.Statement.{statement}
 use Rattle.chains.proofs.work_out_all.Tie as tie
 
@@ -27,6 +28,10 @@ called l = l .before .before .before
 -- the turn in which a core is worked out
 abbrev turn : tie.After-work-out Inv-loop μ-loop → tie.In-loop Inv-loop μ-loop
 turn c = c .before .before .before .before
+
+-- the steps are there, by their type and what is required
+steps-there : (c : tie.Start Inv-loop μ-loop) → c .args .n ≤ length (c .args .t3)
+steps-there c = let long : length (c .args .t3) ≡ 33 = search (needs, length-mapped) in omega (arith, c .pre .1 .few)
 
 module _ (l : tie.In-loop Inv-loop μ-loop) where
   -- step i is one of at most 32
@@ -49,9 +54,7 @@ module _ (l : tie.In-loop Inv-loop μ-loop) where
   here : Working (tasksOf (called l .args .t)) cores (core ∷ drop (l .before .loop .i + 1) cores) (l .before .loop .rooms)
       (l .before .loop .ready)
   here =
-      let spots = called l .args .t3 in
-      let long : length spots ≡ 33 = search (needs, length-mapped) in
-      rw (core-here (called l .args .n) spots (l .before .loop .i) (l .loop-test .taken) (omega (arith, called l .pre .1 .few)))
+      rw (core-here (called l .args .n) (called l .args .t3) (steps-there (called l)) (l .before .loop .i) (l .loop-test .taken))
       at (l .before .loop .inv)
 
 same-length : tie.Need-same-length Inv-loop μ-loop
@@ -76,7 +79,9 @@ loop-again c =
 returns-2 : tie.Need-returns-2 Inv-loop μ-loop
 returns-2 c =
     let l = c .before in
-    all-worked (rw (no-core _ _ _ (l .loop-test .left)) at (l .before .loop .inv)) (c .whole-chain .ensures)
+    let s = l .before .before .before in
+    let none = no-core (s .args .n) (s .args .t3) (steps-there s) (l .before .loop .i) (l .loop-test .left) in
+    all-worked (rw none at (l .before .loop .inv)) (c .whole-chain .ensures)
 
 pub work-out-all-spec : {M : Type 1} → statement M
 work-out-all-spec =
