@@ -40,6 +40,10 @@ roomSaid rows room = pick (ltb room (needed rows)) (NoRoom (needed rows)) (named
 unfoldable pub coreSaid : ℕ → List Task → ℕ → Verdict
 coreSaid core rows room = pick (ltb 3 core) (NoSuchCore core) (roomSaid rows room)
 
+-- what is said of a core of these tasks with room for every bound, so that code 10 never occurs
+abbrev pub saidOf : List Task → ℕ → Verdict
+saidOf tasks core = coreSaid core (onCore core tasks) (needed (onCore core tasks))
+
 -- code 12 writes all bounds; every other refusal writes none
 unfoldable pub writes : Verdict → Bool
 writes v = eqb (codeOf v) 0 || eqb (codeOf v) 12

@@ -14,7 +14,7 @@ use Rattle.files.proofs.Stops.{stop-fault}
 use Rattle.chains.specs.declared.About.the-variants as A
 use Rattle.chains.specs.declared.Listed.{Listed}
 use Rattle.chains.specs.Lists.{listNumbers}
-use Rattle.chains.specs.Chains.{linksAt, chainIn, refusal, chainSaid, answerFor, delayAnswer}
+use Rattle.chains.specs.Chains.{linksAt, chainIn, noDelay, chainSaid, answerFor, delayAnswer}
 use Rattle.chains.specs.Promises.{asListed, stepsIn}
 use Rattle.chains.proofs.Listing.{list-refused, list-chain}
 
@@ -25,11 +25,11 @@ module _ (s : List ℕ) (f : Loaded) (read : f ≡ readAnswer s) where
   held e = read ∙ ap loaded e
 
   -- a refused table is what is spoken of
-  pub file-refused : (codeOf (f .verdict) ≡ 0 → ⊥) → (list : List ℕ) → refusal A.File (f .verdict) ≡ delayAnswer s list
+  pub file-refused : (codeOf (f .verdict) ≡ 0 → ⊥) → (list : List ℕ) → noDelay A.File (f .verdict) ≡ delayAnswer s list
   unfolding delayAnswer answerFor
   file-refused bad list = of (decode s) refl
     where
-      of : (x : Step (List Task)) → decode s ≡ x → refusal A.File (f .verdict) ≡ answerFor (decode s) list
+      of : (x : Step (List Task)) → decode s ≡ x → noDelay A.File (f .verdict) ≡ answerFor (decode s) list
       of (stop v) e = rw (e, ap (λ (y : Loaded). y .verdict) (held e))
       of (go ts n) e = absurd (bad (ap (λ (y : Loaded). codeOf (y .verdict)) (held e)))
 
@@ -48,7 +48,7 @@ module _ (s : List ℕ) (f : Loaded) (read : f ≡ readAnswer s) where
 
     module _ (l : Listed) (listed : l ≡ asListed (listNumbers list)) where
       -- a refused list is what is spoken of
-      pub list-refuses : (codeOf (l .verdict) ≡ 0 → ⊥) → refusal A.List (l .verdict) ≡ delayAnswer s list
+      pub list-refuses : (codeOf (l .verdict) ≡ 0 → ⊥) → noDelay A.List (l .verdict) ≡ delayAnswer s list
       unfolding chainSaid
       list-refuses bad = sym (by-chain ∙ rw (list-refused list l listed bad (tasksOf (f .table))))
 

@@ -25,8 +25,8 @@ use Rattle.chains.specs.declared.Found.{Found}
 use Rattle.chains.specs.declared.Listed.{Listed}
 use Rattle.chains.specs.declared.Spot.{Spot}
 use Rattle.chains.specs.Lists.{ChainStep}
-use Rattle.chains.specs.Chains.{partAt, linkAt, linksAt, refusal, whole, saidOn, coresSaid, coreOf, chainSaid}
-use Rattle.analysis.specs.Analysis.{needed}
+use Rattle.chains.specs.Chains.{partAt, linkAt, linksAt, noDelay, whole, coresSaid, stepCore, chainSaid}
+use Rattle.analysis.specs.Analysis.{needed, saidOf}
 use Rattle.chains.specs.Promises.{Spots, Finds, stepsIn, IsList, OnCores, coresIn, Filled, WorksAll, addedAt, sumBelow, Summable}
 use Rattle.chains.proofs.Steps.{steps-in}
 use Rattle.chains.proofs.Rows.{Sound, tasks-each}
@@ -70,15 +70,15 @@ module _ (tasks : List Task) (d : ℕ) where
   unfolding coresSaid
   cores-refused [] bad = absurd (bad refl)
   cores-refused (c ∷ cores) bad =
-      by-test (good (saidOn tasks c)) (λ e. rw e (cores-refused cores (rw e at bad))) (λ e. rw e)
+      by-test (good (saidOf tasks c)) (λ e. rw e (cores-refused cores (rw e at bad))) (λ e. rw e)
 
   -- none is
   cores-pass : (cores : List ℕ) → codeOf (coresSaid tasks cores (whole 0) .verdict) ≡ 0 → whole d ≡ coresSaid tasks cores (whole d)
   unfolding coresSaid
   cores-pass [] fine = refl
   cores-pass (c ∷ cores) fine =
-      by-test (good (saidOn tasks c)) (λ e. rw e (cores-pass cores (rw e at fine)))
-      (λ e. absurd (never (is-good (saidOn tasks c) (rw e at fine)) e))
+      by-test (good (saidOf tasks c)) (λ e. rw e (cores-pass cores (rw e at fine)))
+      (λ e. absurd (never (is-good (saidOf tasks c) (rw e at fine)) e))
 
 -- ---- the answer
 
@@ -95,11 +95,11 @@ pub record Chained (t : Table) (l : Listed) (spots : List Spot) : Type 0 where
 module _ (t : Table) (l : Listed) (r : Found) (f : Finds (tasksOf t) (linksAt (tasksOf t) (stepsIn l) [] 0) r) where
   -- a step is unknown
   pub not-chained : (codeOf (r .verdict) ≡ 0 → ⊥)
-      → refusal A.List (r .verdict) ≡ chainSaid (tasksOf t) (linksAt (tasksOf t) (stepsIn l) [] 0)
+      → noDelay A.List (r .verdict) ≡ chainSaid (tasksOf t) (linksAt (tasksOf t) (stepsIn l) [] 0)
   unfolding chainSaid
   not-chained bad = of (linksAt (tasksOf t) (stepsIn l) [] 0) f
     where
-      of : (x : Step (List Link)) → Finds (tasksOf t) x r → refusal A.List (r .verdict) ≡ chainSaid (tasksOf t) x
+      of : (x : Step (List Link)) → Finds (tasksOf t) x r → noDelay A.List (r .verdict) ≡ chainSaid (tasksOf t) x
       of (stop v) e = rw e
       of (go links n) e = absurd (bad (ap codeOf (e .0)))
 
@@ -132,7 +132,7 @@ module _ {t : Table} {l : Listed} {spots : List Spot} (k : Chained t l spots) wh
   good-tasks = tasks-each (k .sound)
 
   -- its cores, as the code goes through them
-  its-cores : coresIn (l .count) spots ≡ map coreOf (k .links)
+  its-cores : coresIn (l .count) spots ≡ map stepCore (k .links)
   its-cores = rw (k .count) (cores-same (k .found) good-tasks (k .long))
 
   -- are there
@@ -157,7 +157,7 @@ module _ {t : Table} {l : Listed} {spots : List Spot} (k : Chained t l spots) wh
       few = needed-few (k .sound)
 
       -- and they are there
-      cores-filled : (core : ℕ) → core ∈ map coreOf (k .links) → Filled tasks rooms core
+      cores-filled : (core : ℕ) → core ∈ map stepCore (k .links) → Filled tasks rooms core
       cores-filled = rw its-cores at (w .filled fine)
 
       -- so the steps can be summed

@@ -24,7 +24,7 @@ use Rattle.model.proofs.Most.{bound-most}
 use Rattle.analysis.specs.Analysis.{needed, coreBounds}
 use Rattle.analysis.proofs.BoundsPut.{bounds-length}
 use Rattle.chains.specs.declared.Spot.{Spot}
-use Rattle.chains.specs.Chains.{coreOf}
+use Rattle.chains.specs.Chains.{stepCore}
 use Rattle.chains.specs.Promises.{startOf, IsSpot, noSpot, Spots, OnCores, coresIn, Filled, placeIn, addedAt, sumBelow, Summable}
 use Rattle.chains.proofs.Cores.{cores-length, core-at}
 
@@ -76,8 +76,8 @@ module _ {tasks : List Task} {links : List Link} {spots : List Spot} (k : Spots 
         omega (arith, place-below (each (rowBounds rows) rows) _ _ its-bound, bounds-length rows rows)
 
   -- the cores of its steps are those of the chain, in order
-  pub cores-same : length spots ≡ 33 → coresIn (length links) spots ≡ map coreOf links
-  cores-same long = ext-getD 0 _ _ (all ∙ sym (length-map links coreOf)) (λ i h. by i (rw all at h))
+  pub cores-same : length spots ≡ 33 → coresIn (length links) spots ≡ map stepCore links
+  cores-same long = ext-getD 0 _ _ (all ∙ sym (length-map links stepCore)) (λ i h. by i (rw all at h))
     where
       room : length links ≤ length spots
       room = omega (arith, k .few)
@@ -85,10 +85,10 @@ module _ {tasks : List Task} {links : List Link} {spots : List Spot} (k : Spots 
       all : length (coresIn (length links) spots) ≡ length links
       all = cores-length (length links) spots room
 
-      by : (i : ℕ) → i < length links → getD (coresIn (length links) spots) i 0 ≡ getD (map coreOf links) i 0
+      by : (i : ℕ) → i < length links → getD (coresIn (length links) spots) i 0 ≡ getD (map stepCore links) i 0
       by i h =
           let w = place-some links i h in
-          core-at (length links) spots room i h ∙ its-core i (w .0) (w .1) ∙ sym (place-map coreOf links i (w .0) (w .1))
+          core-at (length links) spots room i h ∙ its-core i (w .0) (w .1) ∙ sym (place-map stepCore links i (w .0) (w .1))
 
   -- at most 3
   pub on-cores : OnCores (length links) spots
@@ -99,12 +99,12 @@ module _ {tasks : List Task} {links : List Link} {spots : List Spot} (k : Spots 
 
   -- and with the bounds of every core of the chain
   module _ {rooms : List ℕ} (long : length rooms ≡ 4096) (few : (c : ℕ) → needed (onCore c tasks) ≤ 1024)
-      (filled : (c : ℕ) → c ∈ map coreOf links → Filled tasks rooms c) where
+      (filled : (c : ℕ) → c ∈ map stepCore links → Filled tasks rooms c) where
     -- the bound of step i is found in the rooms
     in-rooms : (i : ℕ) (l : Link) → Place links i l → getD rooms (placeIn (getD spots i noSpot)) 0 ≡ boundOf tasks l
     in-rooms i l here =
         let core = l .task .core in
-        let on = filled core (Memᴰ·map coreOf (place-in links i l here)) in
+        let on = filled core (Memᴰ·map stepCore (place-in links i l here)) in
         ap (λ (n : ℕ). getD rooms n 0) (in-core i l here)
         ∙ on .bound _ (its-inside i l here)
         ∙ place-at 0 (coreBounds (onCore core tasks)) _ _ (its-bound i l here)

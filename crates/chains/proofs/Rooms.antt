@@ -1,5 +1,6 @@
 -- One core's bounds in its part of the rooms, from what analysis gives for it. Assumes nothing.
 use Prim.Native.Nat.{ℕ, _+_, _-_, _*_, _≤_, _<_}
+use native.Mathlib.Nat.{le-refl}
 use native.Mathlib.Omega.{arith}
 use borrow.Author.Tests.{le-ltb}
 use mathlib.Core.Path.{_≡_, sym, ap, _∙_}
@@ -25,10 +26,9 @@ use Rattle.table.proofs.Ahead.{good-ahead}
 use Rattle.table.proofs.Codes.{or-good}
 use Rattle.table.proofs.Stored.{times-count}
 use Rattle.analysis.specs.declared.Analysed.{Analysed}
-use Rattle.analysis.specs.Analysis.{needed, coreBounds, roomSaid, coreSaid, writes, roomAfter, tableSaid, Gives, AnalysesTable}
+use Rattle.analysis.specs.Analysis.{needed, coreBounds, roomSaid, coreSaid, saidOf, writes, roomAfter, tableSaid, Gives, AnalysesTable}
 use Rattle.analysis.proofs.Given.{gives-same, answered-verdict}
 use Rattle.analysis.proofs.BoundsPut.{bounds-length}
-use Rattle.chains.specs.Chains.{saidOn}
 use Rattle.chains.specs.Promises.{Filled, Works}
 use Rattle.chains.proofs.Rows.{Sound}
 
@@ -51,10 +51,11 @@ module _ {t : Table} (s : Sound t) where
       omega (arith, keep-total parts (λ u. eqb (u .core) core) (tasksOf t), times-count (tasksOf t))
 
   -- so good, 11 or 12 is said
-  said-here : (core room : ℕ) → core ≤ 3 → room ≡ 1024 → tableSaid t core room ≡ saidOn (tasksOf t) core
-  unfolding tableSaid coreSaid roomSaid saidOn
+  said-here : (core room : ℕ) → core ≤ 3 → room ≡ 1024 → tableSaid t core room ≡ saidOf (tasksOf t) core
+  unfolding tableSaid coreSaid roomSaid
   said-here core room h e =
-      or-good (faultOf t) _ (s .fine) ∙ rw (e, le-ltb 3 core h, le-ltb 1024 (needed (onCore core (tasksOf t))) (needed-few core))
+      let all = needed (onCore core (tasksOf t)) in
+      or-good (faultOf t) _ (s .fine) ∙ rw (e, le-ltb 3 core h, le-ltb 1024 all (needed-few core), le-ltb all all (le-refl all))
 
   module _ (core : ℕ) (small : core ≤ 3) (rooms : List ℕ) (long : length rooms ≡ 4096) where
     -- where the core's part begins
@@ -72,12 +73,12 @@ module _ {t : Table} (s : Sound t) where
       part-long = same ∙ part-length from 1024 rooms (omega arith)
 
       -- as what is said of the core gives
-      gives : Gives (saidOn (tasksOf t) core) (onCore core (tasksOf t)) lent a part
+      gives : Gives (saidOf (tasksOf t) core) (onCore core (tasksOf t)) lent a part
       gives = gives-same (said-here core (length lent) small (sym same ∙ part-long)) given
 
       -- the verdict is that
-      verdict : a .verdict ≡ saidOn (tasksOf t) core
-      verdict = ap (λ (x : Analysed). x .verdict) (gives .answer) ∙ answered-verdict (saidOn (tasksOf t) core) (onCore core (tasksOf t))
+      verdict : a .verdict ≡ saidOf (tasksOf t) core
+      verdict = ap (λ (x : Analysed). x .verdict) (gives .answer) ∙ answered-verdict (saidOf (tasksOf t) core) (onCore core (tasksOf t))
 
       -- with code 0 the rooms have the core's bounds
       own-bounds : codeOf (a .verdict) ≡ 0 → Filled (tasksOf t) (sets rooms from part) core
@@ -86,7 +87,7 @@ module _ {t : Table} (s : Sound t) where
             bound = λ k h.
                 sets-at 0 rooms from part k (omega (arith, part-long)) (omega (arith, part-long, needed-few core))
                 ∙ ap (λ (xs : List ℕ). getD xs k 0) (gives .left)
-                ∙ after-good (saidOn (tasksOf t) core) (onCore core (tasksOf t)) lent (sym (ap codeOf verdict) ∙ e) k h;
+                ∙ after-good (saidOf (tasksOf t) core) (onCore core (tasksOf t)) lent (sym (ap codeOf verdict) ∙ e) k h;
           }
 
       -- another core's bounds stay

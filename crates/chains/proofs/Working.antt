@@ -18,12 +18,13 @@ use Rattle.table.specs.Verdicts.{codeOf, good}
 use Rattle.table.proofs.Codes.{is-good, is-fault}
 use Rattle.chains.specs.declared.About.the-variants as A
 use Rattle.chains.specs.declared.Delayed.{Delayed}
-use Rattle.chains.specs.Chains.{refusal, whole, saidOn, coresSaid}
+use Rattle.analysis.specs.Analysis.{saidOf}
+use Rattle.chains.specs.Chains.{noDelay, whole, coresSaid}
 use Rattle.chains.specs.Promises.{Filled, Works, WorksAll}
 
 -- a core that was worked out: it is good, and its bounds are there
 pub record Ready (tasks : List Task) (rooms : List ℕ) (core : ℕ) : Type 0 where
-  pub fine : good (saidOn tasks core) ≡ true
+  pub fine : good (saidOf tasks core) ≡ true
   pub filled : Filled tasks rooms core
 
 -- cores of which some are left: the rest are ready, and what is said of all is what is said of those left
@@ -86,10 +87,10 @@ module _ {tasks : List Task} {cores : List ℕ} {core : ℕ} {left rooms : List 
   next small e = passing (marked w now small e) (getD-set-same ready core true false (omega (arith, w .four)))
 
   -- or refused
-  pub halts : (codeOf v ≡ 0 → ⊥) → {r : Delayed} → r ≡ refusal (A.Core core) v → WorksAll tasks cores r rooms′
+  pub halts : (codeOf v ≡ 0 → ⊥) → {r : Delayed} → r ≡ noDelay (A.Core core) v → WorksAll tasks cores r rooms′
   unfolding coresSaid
   halts h e =
-      let fault : good (saidOn tasks core) ≡ false = rw (now .said) at (is-fault v h) in
+      let fault : good (saidOf tasks core) ≡ false = rw (now .said) at (is-fault v h) in
       rw (e, now .said) (record { said = sym (w .same ∙ rw fault); filled = λ z. absurd (h (ap codeOf (now .said) ∙ z)) })
 
 -- none is left: all are ready

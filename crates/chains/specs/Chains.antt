@@ -4,14 +4,13 @@ use mathlib.Core.List.{List, [], _∷_, _++_, map}
 use lib.Dec.{eqb, ltb}
 use Rattle.lists.specs.Lists.{pick}
 use Rattle.model.specs.Task.{Task, parts}
-use Rattle.model.specs.Bounds.{onCore, coreVerdict}
 use Rattle.model.specs.Chains.{Link, delay}
 use Rattle.table.specs.declared.Verdict.{Verdict}
 use Rattle.table.specs.declared.Verdict.the-variants.{Good, UnknownStep}
 use Rattle.table.specs.Verdicts.{good}
 use Rattle.fields.specs.Stepping.{Step, stop, go, _then_}
 use Rattle.files.specs.Reading.{decode}
-use Rattle.analysis.specs.Analysis.{named}
+use Rattle.analysis.specs.Analysis.{saidOf}
 use Rattle.chains.specs.declared.About.{About}
 use Rattle.chains.specs.declared.About.the-variants as A
 use Rattle.chains.specs.declared.Delayed.{Delayed}
@@ -36,35 +35,31 @@ unfoldable pub chainIn : List Task → List ℕ → Step (List Link)
 chainIn tasks list = decodeList list then λ steps at. linksAt tasks steps [] 0
 
 -- a refused delay is 0
-abbrev pub refusal : About → Verdict → Delayed
-refusal about v = record { about = about; verdict = v; delay = 0 }
+abbrev pub noDelay : About → Verdict → Delayed
+noDelay about v = record { about = about; verdict = v; delay = 0 }
 
 -- a chain with this delay
 abbrev pub whole : ℕ → Delayed
 whole d = record { about = A.Chain; verdict = Good; delay = d }
 
--- what is said of a core: good, 11 or 12
-unfoldable pub saidOn : List Task → ℕ → Verdict
-saidOn tasks core = named (coreVerdict (onCore core tasks))
-
 -- of cores in step order the first whose code is not 0; where there is none, the answer given
 unfoldable pub coresSaid : List Task → List ℕ → Delayed → Delayed
 coresSaid tasks [] answer = answer
 coresSaid tasks (core ∷ cores) answer =
-    pick (good (saidOn tasks core)) (coresSaid tasks cores answer) (refusal (A.Core core) (saidOn tasks core))
+    pick (good (saidOf tasks core)) (coresSaid tasks cores answer) (noDelay (A.Core core) (saidOf tasks core))
 
 -- the core of a step
-abbrev pub coreOf : Link → ℕ
-coreOf l = l .task .core
+abbrev pub stepCore : Link → ℕ
+stepCore l = l .task .core
 
 -- a table's answer for the chain that was read: the list's codes, then those of the cores
 unfoldable pub chainSaid : List Task → Step (List Link) → Delayed
-chainSaid tasks (stop v) = refusal A.List v
-chainSaid tasks (go links n) = coresSaid tasks (map coreOf links) (whole (delay tasks links))
+chainSaid tasks (stop v) = noDelay A.List v
+chainSaid tasks (go links n) = coresSaid tasks (map stepCore links) (whole (delay tasks links))
 
 -- the table's reading codes first
 unfoldable pub answerFor : Step (List Task) → List ℕ → Delayed
-answerFor (stop v) list = refusal A.File v
+answerFor (stop v) list = noDelay A.File v
 answerFor (go tasks next) list = chainSaid tasks (chainIn tasks list)
 
 -- the answer, from the bytes of the table file and of the list

@@ -13,13 +13,13 @@ use Rattle.table.specs.declared.Verdict.{Verdict}
 use Rattle.table.specs.declared.Verdict.the-variants.{Good}
 use Rattle.table.specs.Verdicts.{codeOf}
 use Rattle.fields.specs.Stepping.{Step, stop, go}
-use Rattle.analysis.specs.Analysis.{needed, coreBounds}
+use Rattle.analysis.specs.Analysis.{needed, coreBounds, saidOf}
 use Rattle.chains.specs.declared.Delayed.{Delayed}
 use Rattle.chains.specs.declared.Found.{Found}
 use Rattle.chains.specs.declared.Listed.{Listed}
 use Rattle.chains.specs.declared.Spot.{Spot}
 use Rattle.chains.specs.Lists.{ChainStep, stepsFrom}
-use Rattle.chains.specs.Chains.{saidOn, whole, coresSaid}
+use Rattle.chains.specs.Chains.{whole, coresSaid}
 
 -- the numbers of a list as the code holds them
 abbrev pub asListed : Step (List ℕ) → Listed
@@ -94,7 +94,7 @@ pub record Filled (tasks : List Task) (rooms : List ℕ) (core : ℕ) : Type 0 w
 
 -- one core worked out: what is said of it, and its bounds where that is good; the other cores' stay
 pub record Works (tasks : List Task) (core : ℕ) (rooms : List ℕ) (r : Verdict) (rooms′ : List ℕ) : Type 0 where
-  pub said : r ≡ saidOn tasks core
+  pub said : r ≡ saidOf tasks core
   pub filled : codeOf r ≡ 0 → Filled tasks rooms′ core
   pub others : (c : ℕ) → (c ≡ core → ⊥) → Filled tasks rooms c → Filled tasks rooms′ c
   pub long : length rooms′ ≡ length rooms

@@ -9,7 +9,7 @@ ghost use Rattle.table.specs.Memory.{tasksOf};
 ghost use Rattle.table.specs.Faults.{faultOf};
 ghost use Rattle.fields.specs.Stepping.{stop};
 ghost use Rattle.chains.specs.Lists.{stepsAt, listNumbers};
-ghost use Rattle.chains.specs.Chains.{refusal, whole, linksAt, chainSaid, delayAnswer};
+ghost use Rattle.chains.specs.Chains.{noDelay, whole, linksAt, chainSaid, delayAnswer};
 ghost use Rattle.chains.specs.Promises.{asListed, FirstAt, Indexed, noSpot, Finds, stepsIn, IsList, OnCores, coresIn};
 ghost use Rattle.chains.specs.Promises.{Works, WorksAll, adding, addedAt, sumBelow, Summable};
 use fields::Field;
@@ -61,9 +61,9 @@ const STEP_LOW: [u32; 2] = [1, 1];
 // The most that they may be.
 const STEP_HIGH: [u32; 2] = [65535, 64];
 
-// A refusal: the delay is 0.
+// A refused delay is 0.
 fn refused(about: About, verdict: Verdict) -> Delayed
-    ensures { λ r. ⌜ r ≡ refusal about verdict ⌝ }
+    ensures { λ r. ⌜ r ≡ noDelay about verdict ⌝ }
 {
     Delayed {
         about,
@@ -302,8 +302,8 @@ fn delay_in(t: Table, l: Listed) -> Delayed
     let spots = found.spots;
     let mut rooms = [0u32; 4096];
     let said = work_out_all(t, n, spots, &mut rooms);
-    let refusal = said.verdict;
-    if table::code_of(refusal) != 0 {
+    let fault = said.verdict;
+    if table::code_of(fault) != 0 {
         return said;
     }
     whole_chain(sum_of(n, spots, &rooms))

@@ -1,7 +1,7 @@
 -- A chain is read step by step and its cores are asked in step order as the rules say: 16 for the first unknown step, then the first core
 -- whose code is not 0. From the laws of good files and of cores.
 use Prim.Native.Nat.{ℕ, zero, suc, _+_, _-_, _≤_, _<_}
-use native.Mathlib.Nat.{add-zero, add-suc, suc-add, le-refl}
+use native.Mathlib.Nat.{add-zero, add-suc, suc-add}
 use native.Mathlib.Omega.{arith}
 use borrow.Author.Tests.{eq-eqb, eqb-true, lt-ltb, le-ltb}
 use mathlib.Core.Path.{_≡_, refl, sym, ap, subst, _∙_}
@@ -13,24 +13,23 @@ use lib.ListN.{length}
 use lib.Dec.{eqb}
 use Rattle.lists.specs.Lists.{_∈_, Place}
 use Rattle.lists.proofs.Tests.{by-test, never, either}
-use Rattle.lists.proofs.Places.{place-in}
 use Rattle.model.specs.Task.{Task, parts}
-use Rattle.model.specs.Bounds.{onCore, coreVerdict}
+use Rattle.model.specs.Bounds.{onCore}
 use Rattle.model.specs.Chains.{Link}
 use Rattle.table.specs.declared.Verdict.{Verdict}
 use Rattle.table.specs.declared.Verdict.the-variants as C
 use Rattle.table.specs.Verdicts.{good}
 use Rattle.fields.specs.Stepping.{stop, go, _then_}
 use Rattle.fields.proofs.Taken.{stopped-not}
-use Rattle.analysis.specs.Analysis.{needed, coreSaid}
+use Rattle.analysis.specs.Analysis.{needed, saidOf}
 use Rattle.chains.specs.declared.About.the-variants as A
 use Rattle.chains.specs.declared.Delayed.{Delayed}
 use Rattle.chains.specs.Lists.{ChainStep}
-use Rattle.chains.specs.Chains.{partAt, linkAt, linksAt, refusal, saidOn, coresSaid, coreOf}
+use Rattle.chains.specs.Chains.{partAt, linkAt, linksAt, noDelay, coresSaid, stepCore}
 use Rattle.demands.specs.Rules.{GoodFile}
 use Rattle.demands.specs.Chains.{Names, AllNamed, FirstUnknown, CoreSays, FirstRefused, AllPass}
-use Rattle.demands.proofs.CoreRule.{enough-said, rule-said, said-rule, good-or-not, passes-code}
-use Rattle.demands.proofs.GoodFile.{one-task, task-good, core-good}
+use Rattle.demands.proofs.CoreRule.{rule-said, said-rule, good-or-not}
+use Rattle.demands.proofs.GoodFile.{one-task, core-good}
 
 -- ---- the first of a list
 
@@ -179,75 +178,57 @@ module _ {s : List ℕ} {tasks : List Task} (file : GoodFile s tasks) where
   -- ---- the cores of a chain
 
   -- what is said of a core its rule says
-  says-core : (core : ℕ) → core ≤ 3 → CoreSays tasks core (saidOn tasks core)
-  unfolding saidOn
-  says-core core such =
-      let rows = onCore core tasks in
-      let said = enough-said core rows (needed rows) (record { such = such; fits = le-refl _ }) (coreVerdict rows) refl in
-      rw said at (said-rule core rows (needed rows) (core-good core file .distinct))
+  says-core : (core : ℕ) → CoreSays tasks core (saidOf tasks core)
+  says-core core = said-rule core (onCore core tasks) (needed (onCore core tasks)) (core-good core file .distinct)
 
   -- and no other verdict
-  one-saying : (core : ℕ) → core ≤ 3 → {v : Verdict} → CoreSays tasks core v → saidOn tasks core ≡ v
-  one-saying core such says = sym (said (says-core core such)) ∙ said says
-    where
-      said : {v : Verdict} → CoreSays tasks core v → coreSaid core (onCore core tasks) (needed (onCore core tasks)) ≡ v
-      said = rule-said core (onCore core tasks) (needed (onCore core tasks)) (core-good core file .distinct)
+  one-saying : (core : ℕ) {v : Verdict} → CoreSays tasks core v → saidOf tasks core ≡ v
+  one-saying core = rule-said core (onCore core tasks) (needed (onCore core tasks)) (core-good core file .distinct)
 
   -- a core passes, or its verdict is another
-  good-or-refused : (core : ℕ) → core ≤ 3 → CoreSays tasks core C.Good ⊎ ((v : Verdict) × CoreSays tasks core v × (v ≡ C.Good → ⊥))
+  good-or-refused : (core : ℕ) → CoreSays tasks core C.Good ⊎ ((v : Verdict) × CoreSays tasks core v × (v ≡ C.Good → ⊥))
   unfolding good
-  good-or-refused core such =
-      let says = says-core core such in
-      ⊎-elim (λ e. inl (subst (CoreSays tasks core) e says)) (λ f. inr (saidOn tasks core, says, λ e. never (rw e) f))
+  good-or-refused core =
+      let says = says-core core in
+      ⊎-elim (λ e. inl (subst (CoreSays tasks core) e says)) (λ f. inr (saidOf tasks core, says, λ e. never (rw e) f))
       (good-or-not _ _ _ says)
 
-  -- a core that passes is said to be good
-  good-said : {core : ℕ} → CoreSays tasks core C.Good → saidOn tasks core ≡ C.Good
-  good-said {core} says = one-saying core (passes-code core _ _ says refl .0 .such) says
-
   -- where all cores pass, the answer is given
-  pub all-pass : (answer : Delayed) (links : List Link) → AllPass tasks links → coresSaid tasks (map coreOf links) answer ≡ answer
+  pub all-pass : (answer : Delayed) (links : List Link) → AllPass tasks links → coresSaid tasks (map stepCore links) answer ≡ answer
   unfolding coresSaid good
   all-pass answer [] pass = refl
   all-pass answer (l ∷ links) pass =
-      rw (good-said (pass l (List·Memᴰ·head refl))) (all-pass answer links (λ m i. pass m (List·Memᴰ·tail i)))
+      rw (one-saying (stepCore l) (pass l (List·Memᴰ·head refl))) (all-pass answer links (λ m i. pass m (List·Memᴰ·tail i)))
 
   -- where the core of one step is refused and those before it pass, its verdict is given
   refused-at : (answer : Delayed) (links : List Link) (n : ℕ) (l : Link) (v : Verdict) → Place links n l
-      → saidOn tasks (coreOf l) ≡ v → good v ≡ false
-      → ((i : ℕ) (earlier : Link) → i < n → Place links i earlier → CoreSays tasks (coreOf earlier) C.Good)
-      → coresSaid tasks (map coreOf links) answer ≡ refusal (A.Core (coreOf l)) v
+      → saidOf tasks (stepCore l) ≡ v → good v ≡ false
+      → ((i : ℕ) (earlier : Link) → i < n → Place links i earlier → CoreSays tasks (stepCore earlier) C.Good)
+      → coresSaid tasks (map stepCore links) answer ≡ noDelay (A.Core (stepCore l)) v
   unfolding coresSaid good Place
   refused-at answer [] n l v here said fault before = absurd here
   refused-at answer (m ∷ links) zero l v here said fault before = rw (here, said, fault)
   refused-at answer (m ∷ links) (suc n) l v here said fault before =
-      rw (good-said (before 0 m (omega arith) refl))
+      rw (one-saying (stepCore m) (before 0 m (omega arith) refl))
       (refused-at answer links n l v here said fault (λ i k h p. before (suc i) k (omega arith) p))
 
-  -- a chain of this table
-  module _ (links : List Link) (rows : (l : Link) → l ∈ links → l .task ∈ tasks) where
-    -- its cores are among the four
-    such : (l : Link) → l ∈ links → coreOf l ≤ 3
-    such l m = task-good file (l .task) (rows l m) .core .most
+  -- the first core, in step order, whose code is not 0 is given
+  pub first-refused : (answer : Delayed) {links : List Link} {core : ℕ} {v : Verdict} → FirstRefused tasks links core v
+      → coresSaid tasks (map stepCore links) answer ≡ noDelay (A.Core core) v
+  first-refused answer {links} {v = v} f =
+      let its : CoreSays tasks (stepCore (f .l)) v = rw (f .its) (f .says) in
+      ⊎-elim (λ e. absurd (f .refused e))
+      (λ fault. rw (← f .its) (refused-at answer links (f .n) (f .l) v (f .here) (one-saying (stepCore (f .l)) its) fault (f .before)))
+      (good-or-not _ _ _ (f .says))
 
-    -- the first core, in step order, whose code is not 0 is given
-    pub first-refused : (answer : Delayed) {core : ℕ} {v : Verdict} → FirstRefused tasks links core v
-        → coresSaid tasks (map coreOf links) answer ≡ refusal (A.Core core) v
-    first-refused answer {v = v} f =
-        let its : CoreSays tasks (coreOf (f .l)) v = rw (f .its) (f .says) in
-        let said = one-saying (coreOf (f .l)) (such (f .l) (place-in links (f .n) (f .l) (f .here))) its in
-        ⊎-elim (λ e. absurd (f .refused e))
-        (λ fault. rw (← f .its) (refused-at answer links (f .n) (f .l) v (f .here) said fault (f .before)))
-        (good-or-not _ _ _ (f .says))
-
-    -- all its cores pass, or there is a first that does not
-    pub pass-or-not : AllPass tasks links ⊎ ((core : ℕ) × (v : Verdict) × FirstRefused tasks links core v)
-    pass-or-not =
-        ⊎-elim inl
-        (λ f.
-        inr (
-          coreOf (f .x),
-          f .is .0,
-          record { n = f .n; l = f .x; here = f .here; its = refl; says = f .is .1; refused = f .is .2; before = f .before },
-        ))
-        (all-or-first _ _ links (λ l m. good-or-refused (coreOf l) (such l m)))
+  -- all cores of a chain pass, or there is a first that does not
+  pub pass-or-not : (links : List Link) → AllPass tasks links ⊎ ((core : ℕ) × (v : Verdict) × FirstRefused tasks links core v)
+  pass-or-not links =
+      ⊎-elim inl
+      (λ f.
+      inr (
+        stepCore (f .x),
+        f .is .0,
+        record { n = f .n; l = f .x; here = f .here; its = refl; says = f .is .1; refused = f .is .2; before = f .before },
+      ))
+      (all-or-first _ _ links (λ l m. good-or-refused (stepCore l)))

@@ -21,7 +21,7 @@ use Rattle.chains.specs.declared.About.{About}
 use Rattle.chains.specs.declared.About.the-variants as A
 use Rattle.chains.specs.declared.Delayed.{Delayed}
 use Rattle.chains.specs.Lists.{ChainStep}
-use Rattle.chains.specs.Chains.{refusal, whole, coreOf, coresSaid, chainIn, chainSaid, answerFor, delayAnswer}
+use Rattle.chains.specs.Chains.{noDelay, whole, stepCore, coresSaid, chainIn, chainSaid, answerFor, delayAnswer}
 use Rattle.chains.proofs.Fronts.{list-of-the-front, table-of-the-front}
 use Rattle.demands.specs.Rules.{GoodFile}
 use Rattle.demands.specs.Chains.{WholeList, FirstRefused, AllPass, GoodChain, ChainRule, SumIs, ChainSays, Chains}
@@ -41,7 +41,7 @@ module _ {s list : List ℕ} {tasks : List Task} {links : List Link} (c : GoodCh
   of-table l m = link-named (c .named) l m .1 .row
 
   -- its cores speak
-  cores-speak : delayAnswer s list ≡ coresSaid tasks (map coreOf links) (whole (delay tasks links))
+  cores-speak : delayAnswer s list ≡ coresSaid tasks (map stepCore links) (whole (delay tasks links))
   unfolding delayAnswer answerFor chainIn chainSaid _then_
   cores-speak = rw (good-read (c .file), whole-list (c .whole), links-read (c .file) (c .named) [] 0 .1)
 
@@ -70,8 +70,8 @@ record Said (s list : List ℕ) (about : About) (v : Verdict) : Type 0 where
   short : delay ≤ 1073741760
 
 module _ (s list : List ℕ) where
-  -- a refusal
-  refused-said : {about : About} {v : Verdict} → delayAnswer s list ≡ refusal about v → Said s list about v
+  -- a noDelay
+  refused-said : {about : About} {v : Verdict} → delayAnswer s list ≡ noDelay about v → Said s list about v
   refused-said e = record { delay = 0; same = e; zero = λ n. refl; short = omega arith }
 
   -- what a rule says is said
@@ -83,7 +83,7 @@ module _ (s list : List ℕ) where
       let first = unknown-read g steps (list-fine w .2 .from1) n u [] 0 in
       refused-said (rw (good-read g, whole-list w, first, zero-add n))
   rule-said (ChainRule.core {links = links} c f) =
-      refused-said (cores-speak c ∙ first-refused (c .file) links (of-table c) _ f)
+      refused-said (cores-speak c ∙ first-refused (c .file) _ f)
   rule-said (ChainRule.good {tasks} {links} c pass) =
       record { delay = delay tasks links; same = good-answer c pass; zero = λ n. absurd (n refl); short = delay-short c }
 
@@ -95,7 +95,7 @@ module _ (s list : List ℕ) where
   of-cores : {tasks : List Task} {links : List Link} → GoodChain s list tasks links → SomeRule
   of-cores {links = links} c =
       ⊎-elim (λ pass. (A.Chain, C.Good, ChainRule.good c pass)) (λ f. (A.Core (f .0), f .1, ChainRule.core c (f .2)))
-      (pass-or-not (c .file) links (of-table c))
+      (pass-or-not (c .file) links)
 
   -- of the steps, where the list is good
   of-steps : {tasks : List Task} {steps : List ChainStep} → GoodFile s tasks → WholeList list steps → SomeRule
@@ -128,7 +128,7 @@ module _ (s list : List ℕ) where
 
     -- they all pass
     passed : AllPass tasks links
-    passed = ⊎-elim (λ pass. pass) (λ f. absurd (none-refused (f .2))) (pass-or-not (c .file) links (of-table c))
+    passed = ⊎-elim (λ pass. pass) (λ f. absurd (none-refused (f .2))) (pass-or-not (c .file) links)
 
     -- so the answer is its delay
     its-delay : delayAnswer s list .delay ≡ delay tasks links

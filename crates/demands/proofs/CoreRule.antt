@@ -20,7 +20,7 @@ use Rattle.demands.specs.Rules.{RoomFor, CoreRule}
 
 module _ (core : ℕ) (rows : List Task) (room : ℕ) where
   -- with such a core and room enough the verdict decides
-  pub enough-said : RoomFor core rows room → (v : CoreVerdict) → coreVerdict rows ≡ v → coreSaid core rows room ≡ named v
+  enough-said : RoomFor core rows room → (v : CoreVerdict) → coreVerdict rows ≡ v → coreSaid core rows room ≡ named v
   unfolding coreSaid roomSaid
   enough-said e v same = rw (le-ltb 3 core (e .such), le-ltb room (needed rows) (e .fits), same)
 

@@ -41,5 +41,5 @@ chain-read = 0
 
 -- the answer for a chain, once its cores' verdicts and its delay are known
 unfoldable pub chain-answered : ℕ
-unfolding chain-read core-said chains.saidOn chains.coresSaid chains.chainSaid chains.answerFor chains.delayAnswer
+unfolding chain-read core-said chains.coresSaid chains.chainSaid chains.answerFor chains.delayAnswer
 chain-answered = 0

@@ -5,7 +5,7 @@ use mathlib.Core.List.{List, [], _∷_}
 use Rattle.table.specs.declared.Verdict.the-variants as C
 use Rattle.chains.specs.declared.About.the-variants as A
 use Rattle.chains.specs.declared.Delayed.{Delayed}
-use Rattle.chains.specs.Chains.{refusal, whole, delayAnswer}
+use Rattle.chains.specs.Chains.{noDelay, whole, delayAnswer}
 use Rattle.demands.specs.Samples.{bytesA}
 
 -- the answer for Set A and this list
@@ -24,19 +24,19 @@ pub record ChainSamples : Type 0 where
   pub twice : alongA (2 ∷ 2 ∷ 2 ∷ 2 ∷ 2 ∷ []) ≡ whole 34
   pub falling : alongA (2 ∷ 2 ∷ 2 ∷ 2 ∷ 1 ∷ []) ≡ whole 31
   -- the table's reading codes first
-  pub table : delayAnswer (128 ∷ []) [] ≡ refusal A.File (C.EndsEarly 1)
+  pub table : delayAnswer (128 ∷ []) [] ≡ noDelay A.File (C.EndsEarly 1)
   -- no list; a list that ends inside a step; a count in two bytes; no step; 33 steps; task 0; part 65; a byte behind the last step
-  pub none : alongA [] ≡ refusal A.List (C.EndsEarly 0)
-  pub cut : alongA (2 ∷ 1 ∷ 1 ∷ 2 ∷ []) ≡ refusal A.List (C.EndsEarly 4)
-  pub long : alongA (129 ∷ 0 ∷ []) ≡ refusal A.List (C.Malformed 0)
-  pub noStep : alongA (0 ∷ []) ≡ refusal A.List (C.OutOfRange 0)
-  pub tooMany : alongA (33 ∷ []) ≡ refusal A.List (C.OutOfRange 0)
-  pub task0 : alongA (1 ∷ 0 ∷ 1 ∷ []) ≡ refusal A.List (C.OutOfRange 1)
-  pub part65 : alongA (1 ∷ 1 ∷ 65 ∷ []) ≡ refusal A.List (C.OutOfRange 2)
-  pub behind : alongA (1 ∷ 1 ∷ 1 ∷ 0 ∷ []) ≡ refusal A.List (C.Trailing 3)
+  pub none : alongA [] ≡ noDelay A.List (C.EndsEarly 0)
+  pub cut : alongA (2 ∷ 1 ∷ 1 ∷ 2 ∷ []) ≡ noDelay A.List (C.EndsEarly 4)
+  pub long : alongA (129 ∷ 0 ∷ []) ≡ noDelay A.List (C.Malformed 0)
+  pub noStep : alongA (0 ∷ []) ≡ noDelay A.List (C.OutOfRange 0)
+  pub tooMany : alongA (33 ∷ []) ≡ noDelay A.List (C.OutOfRange 0)
+  pub task0 : alongA (1 ∷ 0 ∷ 1 ∷ []) ≡ noDelay A.List (C.OutOfRange 1)
+  pub part65 : alongA (1 ∷ 1 ∷ 65 ∷ []) ≡ noDelay A.List (C.OutOfRange 2)
+  pub behind : alongA (1 ∷ 1 ∷ 1 ∷ 0 ∷ []) ≡ noDelay A.List (C.Trailing 3)
   -- task 9 is unknown, and so is part 3 of task 2
-  pub noTask : alongA (1 ∷ 9 ∷ 1 ∷ []) ≡ refusal A.List (C.UnknownStep 0)
-  pub noPart : alongA (2 ∷ 1 ∷ 1 ∷ 2 ∷ 3 ∷ []) ≡ refusal A.List (C.UnknownStep 1)
+  pub noTask : alongA (1 ∷ 9 ∷ 1 ∷ []) ≡ noDelay A.List (C.UnknownStep 0)
+  pub noPart : alongA (2 ∷ 1 ∷ 1 ∷ 2 ∷ 3 ∷ []) ≡ noDelay A.List (C.UnknownStep 1)
   -- the core of task 1 has code 12; an unknown step behind it comes first
-  pub late : alongLate (1 ∷ 1 ∷ 1 ∷ []) ≡ refusal (A.Core 0) (C.Missed 3)
-  pub unknownFirst : alongLate (2 ∷ 1 ∷ 1 ∷ 2 ∷ 3 ∷ []) ≡ refusal A.List (C.UnknownStep 1)
+  pub late : alongLate (1 ∷ 1 ∷ 1 ∷ []) ≡ noDelay (A.Core 0) (C.Missed 3)
+  pub unknownFirst : alongLate (2 ∷ 1 ∷ 1 ∷ 2 ∷ 3 ∷ []) ≡ noDelay A.List (C.UnknownStep 1)

@@ -21,12 +21,12 @@ use Rattle.table.specs.declared.Verdict.{Verdict}
 use Rattle.table.specs.Verdicts.{codeOf, numberOf}
 use Rattle.fields.specs.Stepping.{go}
 use Rattle.files.specs.Reading.{decode}
-use Rattle.analysis.specs.Analysis.{needed}
+use Rattle.analysis.specs.Analysis.{needed, saidOf}
 use Rattle.text.specs.Text.{linesIn}
 use Rattle.text.proofs.WholeLines.{decimal-plain, decimals-plain}
 use Rattle.text.proofs.WholeLines.{InLines, line-alone, no-line, append-lines, each-lines, counted-lines, all-lines}
 use Rattle.sheet.specs.Sheet.{fileWord, header, boundLine, verdictWords, coreLine, fileLine, partLine, rowLines, coreTextOf}
-use Rattle.sheet.specs.Sheet.{saidOf, coreText, goodText, textOf, sheetText}
+use Rattle.sheet.specs.Sheet.{coreText, goodText, textOf, sheetText}
 use Rattle.sheet.specs.Claims.{boundCount, linesBefore, LineOfItsRow, LineOfItsCore, NoOtherLine, LineOfARefusal}
 
 -- ---- the lines

@@ -13,10 +13,10 @@ use Rattle.table.specs.declared.Verdict.the-variants.{Good}
 use Rattle.table.specs.Verdicts.{codeOf}
 use Rattle.fields.specs.Stepping.{stop, go}
 use Rattle.files.specs.Reading.{decode}
-use Rattle.analysis.specs.Analysis.{needed}
+use Rattle.analysis.specs.Analysis.{needed, saidOf}
 use Rattle.table.specs.declared.Written.{Written}
 use Rattle.text.specs.Text.{linesIn}
-use Rattle.sheet.specs.Sheet.{header, boundLine, coreLine, fileLine, saidOf, sheetText, Prints}
+use Rattle.sheet.specs.Sheet.{header, boundLine, coreLine, fileLine, sheetText, Prints}
 
 -- header 34, each of at most 1,024 bounds 29, each of four verdict lines 28
 abbrev pub TextIsShort : Type 0

@@ -12,7 +12,7 @@ use Rattle.table.specs.Verdicts.{codeOf, numberOf}
 use Rattle.table.specs.Written.{Writes}
 use Rattle.fields.specs.Stepping.{Step, stop, go}
 use Rattle.files.specs.Reading.{decode}
-use Rattle.analysis.specs.Analysis.{needed, coreSaid}
+use Rattle.analysis.specs.Analysis.{saidOf}
 use Rattle.text.specs.Text.{decimal, line}
 
 -- "core"
@@ -78,10 +78,6 @@ rowLines core rows t = each (partLine core rows t) (upTo (parts t))
 -- a core whose rows got this verdict: with code 11 only the verdict
 unfoldable pub coreTextOf : ℕ → List Task → Verdict → List ℕ
 coreTextOf core rows v = pick (eqb (codeOf v) 11) [] (each (rowLines core rows) rows) ++ coreLine core v
-
--- what is said of a core, with room for every bound, so that code 10 never occurs
-abbrev pub saidOf : List Task → ℕ → Verdict
-saidOf tasks core = coreSaid core (onCore core tasks) (needed (onCore core tasks))
 
 unfoldable pub coreText : List Task → ℕ → List ℕ
 coreText tasks core = coreTextOf core (onCore core tasks) (saidOf tasks core)
