@@ -42,7 +42,8 @@ none-worked tasks cores rooms long =
 
 -- a core is worked out and good
 module _ {tasks : List Task} {cores left rooms : List ℕ} {ready : List Bool} (w : Working tasks cores left rooms ready)
-    {core : ℕ} {v : Verdict} {rooms′ : List ℕ} (now : Works tasks core rooms v rooms′) (small : core ≤ 3) (e : codeOf v ≡ 0) where
+    {core : ℕ} {v : Verdict} {rooms′ : List ℕ} (now : Works tasks core rooms v rooms′) (small : core ≤ 3)
+    (e : codeOf (saidOf tasks core) ≡ 0) where
   -- its own mark is set, and the others' stay
   marks : (c : ℕ) → ((c ≡ core) × (getD (set ready core true) c false ≡ true))
       ⊎ ((c ≡ core → ⊥) × (getD (set ready core true) c false ≡ getD ready c false))
@@ -52,7 +53,7 @@ module _ {tasks : List Task} {cores left rooms : List ℕ} {ready : List Bool} (
   ready-now : (c : ℕ) → getD (set ready core true) c false ≡ true → Ready tasks rooms′ c
   ready-now c r =
       ⊎-elim
-      (λ x. rw (x .0) (record { fine = rw (now .said) at (is-good v e); filled = now .filled e }))
+      (λ x. rw (x .0) (record { fine = is-good (saidOf tasks core) e; filled = now .filled (ap codeOf (now .said) ∙ e) }))
       (λ x. (let was = w .worked c (sym (x .1) ∙ r) in record { fine = was .fine; filled = now .others c (x .0) (was .filled) }))
       (marks c)
 
@@ -83,15 +84,14 @@ passing {core = core} w e =
 module _ {tasks : List Task} {cores : List ℕ} {core : ℕ} {left rooms : List ℕ} {ready : List Bool}
     (w : Working tasks cores (core ∷ left) rooms ready) {v : Verdict} {rooms′ : List ℕ} (now : Works tasks core rooms v rooms′) where
   -- and good
-  pub next : core ≤ 3 → codeOf v ≡ 0 → Working tasks cores left rooms′ (set ready core true)
+  pub next : core ≤ 3 → codeOf (saidOf tasks core) ≡ 0 → Working tasks cores left rooms′ (set ready core true)
   next small e = passing (marked w now small e) (getD-set-same ready core true false (omega (arith, w .four)))
 
   -- or refused
-  pub halts : (codeOf v ≡ 0 → ⊥) → {r : Delayed} → r ≡ noDelay (A.Core core) v → WorksAll tasks cores r rooms′
+  pub halts : (codeOf (saidOf tasks core) ≡ 0 → ⊥) → {r : Delayed} → r ≡ noDelay (A.Core core) v → WorksAll tasks cores r rooms′
   unfolding coresSaid
   halts h e =
-      let fault : good (saidOf tasks core) ≡ false = rw (now .said) at (is-fault v h) in
-      rw (e, now .said) (record { said = sym (w .same ∙ rw fault); filled = λ z. absurd (h (ap codeOf (now .said) ∙ z)) })
+      rw (e, now .said) (record { said = sym (w .same ∙ rw (is-fault (saidOf tasks core) h)); filled = λ z. absurd (h z) })
 
 -- none is left: all are ready
 pub all-worked : {tasks : List Task} {cores rooms : List ℕ} {ready : List Bool} {r : Delayed} → Working tasks cores [] rooms ready

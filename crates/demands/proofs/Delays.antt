@@ -42,7 +42,7 @@ step-of {tasks = tasks} {l = l} file k says =
 -- two steps that rise are of one job
 rising-same : (l m : Link) → Rising l m → sameJob l m ≡ true
 unfolding sameJob
-rising-same l m r = rw (eq-eqb (l .task .id) (m .task .id) (r .0), lt-ltb (l .part) (m .part) (r .1))
+rising-same l m r = rw (eq-eqb (l .task .id) (m .task .id) (r .0), lt-ltb (l .part) (m .part) (omega (arith, r .1)))
 
 module _ (tasks : List Task) where
   -- each of them is a step of the table

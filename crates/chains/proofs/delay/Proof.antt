@@ -3,6 +3,8 @@ use borrow.Author.Needs.{needs}
 use mathlib.Core.Path.{_≡_, sym, _∙_}
 use Rattle.table.specs.Verdicts.{codeOf}
 use Rattle.analysis.proofs.Tabled.{read-faultless}
+use Rattle.chains.specs.declared.About.the-variants as A
+use Rattle.chains.specs.Chains.{noDelay}
 use Rattle.chains.proofs.Listing.{list-is}
 use Rattle.chains.proofs.Answers.{file-refused, list-refuses, chain-answers}
 use Rattle.chains.proofs.delay.Statement.{statement}
@@ -11,8 +13,8 @@ use Rattle.chains.proofs.delay.Tie as tie
 returns : tie.Need-returns
 returns c =
     let told = c .before .before in
-    c .refused .ensures
-    ∙ file-refused _ _ (told .before .read .ensures) (λ z. c .before .if1 .taken (told .code-of .ensures ∙ z)) _
+    let said : c .refused .result ≡ noDelay A.File (told .before .read .result .verdict) = c .refused .ensures in
+    said ∙ file-refused _ _ (told .before .read .ensures) (λ z. c .before .if1 .taken (told .code-of .ensures ∙ z)) _
 
 -- the table is read
 fine : (c : tie.Else1) → codeOf (c .before .before .read .result .verdict) ≡ 0
@@ -27,8 +29,8 @@ returns-2 c =
     let told = c .before .before in
     let call = told .before in
     let e = call .before in
-    c .refused2 .ensures
-    ∙ list-refuses _ _ (e .before .before .read .ensures) (fine e) _ _ (call .read-list .ensures)
+    let said : c .refused2 .result ≡ noDelay A.List (call .read-list .result .verdict) = c .refused2 .ensures in
+    said ∙ list-refuses _ _ (e .before .before .read .ensures) (fine e) _ _ (call .read-list .ensures)
     (λ z. c .before .if2 .taken (told .code-of2 .ensures ∙ z))
 
 delay-in-requires : tie.Need-delay-in-requires

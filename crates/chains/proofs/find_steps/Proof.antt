@@ -4,9 +4,9 @@ use native.Mathlib.Omega.{arith}
 use borrow.Author.Needs.{needs}
 use mathlib.Core.Path.{_≡_, refl, sym}
 use mathlib.Core.List.{_∷_}
-use lib.ListN.{length, drop, take}
+use lib.ListN.{length, getD, drop, take}
 use Rattle.lists.proofs.Drops.{in-front}
-use Rattle.table.specs.Memory.{tasksOf}
+use Rattle.table.specs.Memory.{zeroRow, tasksOf}
 use Rattle.table.proofs.Rows.{length-mapped}
 use Rattle.chains.specs.Lists.{ChainStep, stepsFrom}
 use Rattle.chains.specs.Promises.{stepsIn}
@@ -64,11 +64,18 @@ looked c =
 -- is a row's
 inside : (c : tie.Else1 Inv-loop μ-loop)
     → c .before .first-at .result < called (c .before .before .before .before) .args .t1 .count
-inside c = at-inside (looked (c .before)) (c .if1 .left)
+inside c = at-inside (looked (c .before)) (λ e. omega (arith, e, c .if1 .left))
 
 -- of the 64
 row-there : (c : tie.Else1 Inv-loop μ-loop) → c .before .first-at .result < 64
 row-there c = omega (arith, inside c, count-in (sound (called (c .before .before .before .before))))
+
+-- the row has the part
+within : (c : tie.Else2 Inv-loop μ-loop)
+    → let f = c .before .before .before .before in
+    let l = f .before .before in
+    step l .part ≤ getD (called (l .before) .args .t1 .rows) (f .first-at .result) zeroRow .parts
+within c = omega (arith, c .if2 .left)
 
 loop-holds : tie.Need-loop-holds Inv-loop μ-loop
 loop-holds c = rw (c .no-spot .ensures) (none-found _ _)
@@ -96,8 +103,8 @@ loop-again c =
     let l = e .before .before .before in
     let k = looked (e .before) in
     one-found (l .before .loop .inv) (next l) (omega (arith, l .loop-test .taken, called (l .before) .pre .1 .few))
-    (link-is k (inside e) _ (c .if2 .left))
-    (spot-is k (inside e) (c .if2 .left) (part-there l))
+    (link-is k (inside e) _ (within c))
+    (spot-is k (inside e) (within c) (part-there l))
 
 returns-3 : tie.Need-returns-3 Inv-loop μ-loop
 returns-3 c =

@@ -6,6 +6,7 @@ use mathlib.Core.Path.{_≡_, sym, _∙_}
 use mathlib.Core.List.{List}
 use Rattle.table.specs.declared.Verdict.{Verdict}
 use Rattle.fields.specs.Stepping.{stop, go, _then_, fieldAt}
+use Rattle.fields.specs.Promises.{asField}
 use Rattle.fields.proofs.Steps.{got-field, refused-field}
 use Rattle.fields.proofs.Taken.{field-read}
 use Rattle.chains.specs.Lists.{stepCount, stepsAt, listNumbers}
@@ -23,21 +24,25 @@ goes-on : (s : List ℕ) (n at : ℕ) → fieldAt s stepCount 0 ≡ go n at → 
 unfolding listNumbers _then_
 goes-on s n at e = rw e
 
+-- the count, as the definition reads it
+count : (c : tie.After-read-field) → c .read-field .result ≡ asField (fieldAt (now (c .before .before .args .list)) stepCount 0)
+count c = c .read-field .ensures
+
 read-steps-requires : tie.Need-read-steps-requires
 read-steps-requires c κs =
     let c1 = c .before in
-    let read = got-field _ _ _ (sym (c1 .value .given .1) ∙ c1 .before .before .read-field .ensures) in
+    let read = got-field _ _ _ (sym (c1 .value .given .1) ∙ count (c1 .before .before)) in
     field-read (now (c1 .before .before .before .before .args .list)) stepCount 0 _ _ read .fine .most
 
 returns : tie.Need-returns
 returns c =
     let c2 = c .before .before in
-    c .no-list .ensures ∙ stops _ _ (refused-field _ _ (sym (c2 .v .given .1) ∙ c2 .before .before .read-field .ensures))
+    c .no-list .ensures ∙ stops _ _ (refused-field _ _ (sym (c2 .v .given .1) ∙ count (c2 .before .before)))
 
 returns-2 : tie.Need-returns-2
 returns-2 c =
     let c2 = c .before .before in
-    c .read-steps .ensures ∙ goes-on _ _ _ (got-field _ _ _ (sym (c2 .value .given .1) ∙ c2 .before .before .read-field .ensures))
+    c .read-steps .ensures ∙ goes-on _ _ _ (got-field _ _ _ (sym (c2 .value .given .1) ∙ count (c2 .before .before)))
 
 pub read-list-spec : {M : Type 1} → statement M
 read-list-spec =

@@ -1,8 +1,9 @@
 -- `chains::sum_of` meets its contract: the sum over the steps that are passed. Assumes nothing.
-use Prim.Native.Nat.{_-_, _<_}
+use Prim.Native.Nat.{_+_, _-_, _<_}
 use native.Mathlib.Omega.{arith}
+use mathlib.Core.Path.{_≡_}
 use lib.ListN.{length, getD}
-use Rattle.chains.specs.Promises.{noSpot, placeIn}
+use Rattle.chains.specs.Promises.{noSpot, placeIn, adding}
 use Rattle.chains.proofs.Adding.{Adding, none-added, small, one-more, all-added}
 use Rattle.chains.proofs.sum_of.Statement.{statement}
 use Rattle.chains.proofs.sum_of.Tie as tie
@@ -30,6 +31,15 @@ module _ (l : tie.In-loop Inv-loop μ-loop) where
   place : placeIn (getD (called l .args .t2) (l .before .loop .i) noSpot) < length (called l .args .rooms .now)
   place = called l .pre .inside (l .before .loop .i) (l .loop-test .taken)
 
+-- what is added is what step i adds
+adds : (c : tie.After-added Inv-loop μ-loop)
+    → let l = turn (c .before) in
+    let spots = called l .args .t2 in
+    let i = l .before .loop .i in
+    c .added .result
+    ≡ adding (getD spots i noSpot) (getD spots (i + 1) noSpot) (getD (called l .args .rooms .now) (placeIn (getD spots i noSpot)) 0)
+adds c = omega (arith, c .added .ensures)
+
 added-requires : tie.Need-added-requires Inv-loop μ-loop
 added-requires c κs =
     let l = turn c in (called l .pre .period _ (l .loop-test .taken), called l .pre .bound _ (l .loop-test .taken))
@@ -37,11 +47,11 @@ added-requires c κs =
 add-sum : tie.Need-add-sum Inv-loop μ-loop
 add-sum c =
     let l = turn (c .before) in
-    omega (arith, small (called l .pre) (l .before .loop .inv) (l .loop-test .taken) _ (c .added .ensures), few l)
+    omega (arith, small (called l .pre) (l .before .loop .inv) (l .loop-test .taken) _ (adds c), few l)
 
 loop-again : tie.Need-loop-again Inv-loop μ-loop
 loop-again c =
-    let l = turn (c .before) in one-more (called l .pre) (l .before .loop .inv) (l .loop-test .taken) _ (c .added .ensures)
+    let l = turn (c .before) in one-more (called l .pre) (l .before .loop .inv) (l .loop-test .taken) _ (adds c)
 
 returns : tie.Need-returns Inv-loop μ-loop
 returns c = all-added (c .before .before .before .pre) (c .before .loop .inv) (c .loop-test .left)

@@ -3,12 +3,14 @@ use Prim.Native.Nat.{ℕ, _+_, _-_, _≤_, _<_}
 use native.Mathlib.Omega.{arith}
 use borrow.Author.Needs.{needs}
 use borrow.Author.Tests.{not-false}
-use mathlib.Core.Path.{_≡_, sym, _∙_}
+use mathlib.Core.Path.{_≡_, sym, ap, _∙_}
 use mathlib.Core.List.{List, _∷_}
 use mathlib.Core.Logic.{⊎-elim}
 use lib.ListN.{length, getD, drop}
+use Rattle.table.specs.Verdicts.{codeOf}
 use Rattle.table.specs.Memory.{tasksOf}
 use Rattle.table.proofs.Rows.{length-mapped}
+use Rattle.analysis.specs.Analysis.{saidOf}
 use Rattle.chains.specs.Promises.{noSpot, coresIn}
 use Rattle.chains.proofs.Cores.{core-here, no-core}
 use Rattle.chains.proofs.Working.{Working, none-worked, passing, next, halts, all-worked}
@@ -57,6 +59,11 @@ module _ (l : tie.In-loop Inv-loop μ-loop) where
       rw (core-here (called l .args .n) (called l .args .t3) (steps-there (called l)) (l .before .loop .i) (l .loop-test .taken))
       at (l .before .loop .inv)
 
+-- the code is what is said of its core
+said : (c : tie.After-code-of Inv-loop μ-loop)
+    → let l = turn (c .before .before .before) in c .code-of .result ≡ codeOf (saidOf (tasksOf (called l .args .t)) (core l))
+said c = omega (arith, c .code-of .ensures, ap codeOf (c .before .before .before .work-out .ensures .said))
+
 same-length : tie.Need-same-length Inv-loop μ-loop
 same-length c =
     let out = c .before .before .before .before .before in
@@ -66,13 +73,13 @@ returns : tie.Need-returns Inv-loop μ-loop
 returns c =
     let code = c .before .before in
     let out = code .before .before .before in
-    halts (here (turn out)) (out .work-out .ensures) (λ e. c .before .if2 .taken (code .code-of .ensures ∙ e)) (c .refused .ensures)
+    halts (here (turn out)) (out .work-out .ensures) (λ e. c .before .if2 .taken (said code ∙ e)) (c .refused .ensures)
 
 loop-again : tie.Need-loop-again Inv-loop μ-loop
 loop-again c =
     let l = c .before .before in
     ⊎-elim
-    (λ w. rw (w .7, w .8) (next (here l) (w .2 .ensures) (small l) (sym (w .5 .ensures) ∙ w .6 .left)))
+    (λ w. rw (w .7, w .8) (next (here l) (w .2 .ensures) (small l) (sym (w .5 .ensures ∙ ap codeOf (w .2 .ensures .said)) ∙ w .6 .left)))
     (λ w. rw (w .1, w .2) (passing (here l) (not-false _ (w .0 .left))))
     (c .if1 .came)
 
