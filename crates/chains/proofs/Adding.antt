@@ -9,7 +9,7 @@ use lib.Dec.{eqb, ltb}
 use lib.ListN.{getD}
 use Rattle.lists.proofs.Tests.{by-test}
 use Rattle.chains.specs.declared.Spot.{Spot}
-use Rattle.chains.specs.Promises.{noSpot, placeIn, adding, addedAt, sumBelow, Summable}
+use Rattle.chains.specs.Promises.{noSpot, placeIn, adding, addedAt, sumBelow, StepsInRange}
 
 -- the sum over the first i steps, and how much that is at most
 pub record Adding (n : ℕ) (spots : List Spot) (rooms : List ℕ) (sum i : ℕ) : Type 0 where
@@ -27,7 +27,7 @@ adding-most : (s next : Spot) (bound : ℕ) → adding s next bound ≤ s .perio
 adding-most s next bound =
     by-test (eqb (s .task) (next .task) && ltb (s .part) (next .part)) (λ e. rw e (omega arith)) (λ e. rw e (omega arith))
 
-module _ {n : ℕ} {spots : List Spot} {rooms : List ℕ} {sum i : ℕ} (s : Summable n spots rooms) (k : Adding n spots rooms sum i) where
+module _ {n : ℕ} {spots : List Spot} {rooms : List ℕ} {sum i : ℕ} (s : StepsInRange n spots rooms) (k : Adding n spots rooms sum i) where
   module _ (inside : i < n) (more : ℕ)
       (is : more ≡ adding (getD spots i noSpot) (getD spots (i + 1) noSpot) (getD rooms (placeIn (getD spots i noSpot)) 0)) where
     -- the sum stays small

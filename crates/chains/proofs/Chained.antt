@@ -21,13 +21,13 @@ use Rattle.fields.proofs.Taken.{then-read}
 use Rattle.fields.proofs.Honest.{Honest, stop-honest, go-honest, pick-honest, then-honest, honest-fault}
 use Rattle.chains.specs.declared.About.the-variants as A
 use Rattle.chains.specs.declared.Delayed.{Delayed}
-use Rattle.chains.specs.declared.Found.{Found}
+use Rattle.chains.specs.declared.Sought.{Sought}
 use Rattle.chains.specs.declared.Listed.{Listed}
 use Rattle.chains.specs.declared.Spot.{Spot}
 use Rattle.chains.specs.Lists.{ChainStep}
-use Rattle.chains.specs.Chains.{partAt, linkAt, linksAt, noDelay, whole, coresSaid, stepCore, chainSaid}
+use Rattle.chains.specs.Chains.{partAt, linkAt, linksAt, noDelay, goodDelay, coresSaid, stepCore, chainSaid}
 use Rattle.analysis.specs.Analysis.{needed, saidOf}
-use Rattle.chains.specs.Promises.{Spots, Finds, stepsIn, IsList, OnCores, coresIn, Filled, WorksAll, addedAt, sumBelow, Summable}
+use Rattle.chains.specs.Promises.{Spots, Finds, stepsIn, IsList, OnCores, coresIn, Filled, WorksAll, addedAt, sumBelow, StepsInRange}
 use Rattle.chains.proofs.Steps.{steps-in}
 use Rattle.chains.proofs.Rows.{Sound, tasks-each}
 use Rattle.chains.proofs.Rooms.{needed-few}
@@ -65,15 +65,15 @@ module _ (tasks : List Task) where
 
 module _ (tasks : List Task) (d : ℕ) where
   -- one of them is refused, whatever the delay
-  cores-refused : (cores : List ℕ) → (codeOf (coresSaid tasks cores (whole 0) .verdict) ≡ 0 → ⊥)
-      → coresSaid tasks cores (whole 0) ≡ coresSaid tasks cores (whole d)
+  cores-refused : (cores : List ℕ) → (codeOf (coresSaid tasks cores (goodDelay 0) .verdict) ≡ 0 → ⊥)
+      → coresSaid tasks cores (goodDelay 0) ≡ coresSaid tasks cores (goodDelay d)
   unfolding coresSaid
   cores-refused [] bad = absurd (bad refl)
   cores-refused (c ∷ cores) bad =
       by-test (good (saidOf tasks c)) (λ e. rw e (cores-refused cores (rw e at bad))) (λ e. rw e)
 
   -- none is
-  cores-pass : (cores : List ℕ) → codeOf (coresSaid tasks cores (whole 0) .verdict) ≡ 0 → whole d ≡ coresSaid tasks cores (whole d)
+  cores-pass : (cores : List ℕ) → codeOf (coresSaid tasks cores (goodDelay 0) .verdict) ≡ 0 → goodDelay d ≡ coresSaid tasks cores (goodDelay d)
   unfolding coresSaid
   cores-pass [] fine = refl
   cores-pass (c ∷ cores) fine =
@@ -92,7 +92,7 @@ pub record Chained (t : Table) (l : Listed) (spots : List Spot) : Type 0 where
   pub long : length spots ≡ 33
   pub count : l .count ≡ length links
 
-module _ (t : Table) (l : Listed) (r : Found) (f : Finds (tasksOf t) (linksAt (tasksOf t) (stepsIn l) [] 0) r) where
+module _ (t : Table) (l : Listed) (r : Sought) (f : Finds (tasksOf t) (linksAt (tasksOf t) (stepsIn l) [] 0) r) where
   -- a step is unknown
   pub not-chained : (codeOf (r .verdict) ≡ 0 → ⊥)
       → noDelay A.List (r .verdict) ≡ chainSaid (tasksOf t) (linksAt (tasksOf t) (stepsIn l) [] 0)
@@ -141,7 +141,7 @@ module _ {t : Table} {l : Listed} {spots : List Spot} (k : Chained t l spots) wh
 
   -- what the definition says of the chain
   its-answer : chainSaid tasks (linksAt tasks (stepsIn l) [] 0)
-      ≡ coresSaid tasks (coresIn (l .count) spots) (whole (delay tasks (k .links)))
+      ≡ coresSaid tasks (coresIn (l .count) spots) (goodDelay (delay tasks (k .links)))
   unfolding chainSaid
   its-answer = rw (k .same, its-cores)
 
@@ -161,12 +161,12 @@ module _ {t : Table} {l : Listed} {spots : List Spot} (k : Chained t l spots) wh
       cores-filled = rw its-cores at (w .filled fine)
 
       -- so the steps can be summed
-      pub can-sum : Summable (l .count) spots rooms
+      pub can-sum : StepsInRange (l .count) spots rooms
       can-sum = rw (k .count) (summable (k .found) good-tasks long few cores-filled)
 
       -- and that is the answer
       pub chain-passes : (d : ℕ) → d ≡ sumBelow (addedAt spots rooms) (l .count)
-          → whole d ≡ chainSaid tasks (linksAt tasks (stepsIn l) [] 0)
+          → goodDelay d ≡ chainSaid tasks (linksAt tasks (stepsIn l) [] 0)
       chain-passes d e =
           let sum : sumBelow (addedAt spots rooms) (length (k .links)) ≡ delay tasks (k .links)
           = sum-is-delay (k .found) good-tasks long few cores-filled in

@@ -25,7 +25,7 @@ use Rattle.analysis.specs.Analysis.{needed, coreBounds}
 use Rattle.analysis.proofs.BoundsPut.{bounds-length}
 use Rattle.chains.specs.declared.Spot.{Spot}
 use Rattle.chains.specs.Chains.{stepCore}
-use Rattle.chains.specs.Promises.{startOf, IsSpot, noSpot, Spots, OnCores, coresIn, Filled, placeIn, addedAt, sumBelow, Summable}
+use Rattle.chains.specs.Promises.{startOf, IsSpot, noSpot, Spots, OnCores, coresIn, Filled, placeIn, addedAt, sumBelow, StepsInRange}
 use Rattle.chains.proofs.Cores.{cores-length, core-at}
 
 -- a row's bound stands where its part says, behind those of the core's rows before it
@@ -110,7 +110,7 @@ module _ {tasks : List Task} {links : List Link} {spots : List Spot} (k : Spots 
         ∙ place-at 0 (coreBounds (onCore core tasks)) _ _ (its-bound i l here)
 
     -- so the steps can be summed
-    pub summable : Summable (length links) spots rooms
+    pub summable : StepsInRange (length links) spots rooms
     unfolding boundOf
     summable =
         record {

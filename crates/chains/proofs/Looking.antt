@@ -19,7 +19,7 @@ use Rattle.fields.specs.Stepping.{stop, go}
 use Rattle.chains.specs.Lists.{ChainStep}
 use Rattle.chains.specs.Chains.{partAt, linkAt}
 use Rattle.chains.specs.Promises.{FirstAt, Indexed, IsSpot}
-use Rattle.chains.proofs.Rows.{Sound, rowAt, TaskAt, tasks-count, count-in, task-at}
+use Rattle.chains.proofs.Rows.{Sound, tableRow, TaskAt, tasks-count, count-in, task-at}
 
 -- the tasks that have another id are passed over
 passed : (s : ChainStep) (n : ℕ) (tasks : List Task) (at : ℕ) → ((j : ℕ) (v : Task) → j < at → Place tasks j v → v .id ≡ s .task → ⊥)
@@ -78,12 +78,12 @@ module _ {t : Table} {ids starts : List ℕ} {s : ChainStep} {at : ℕ} (k : Loo
         from-here n ∙ rw (place-drop (tasksOf t) at (task .task) (task .place), eq-eqb (task .task .id) (s .task) (sym id-here))
 
     -- with as many parts as the row says
-    parts-here : rowAt t at .parts ≡ parts (task .task)
+    parts-here : tableRow t at .parts ≡ parts (task .task)
     unfolding parts
     parts-here = ap (λ (r : Row). r .parts) (task .row)
 
     -- the part is unknown
-    pub no-part : (n : ℕ) → rowAt t at .parts < s .part → linkAt (tasksOf t) s n ≡ stop (UnknownStep n)
+    pub no-part : (n : ℕ) → tableRow t at .parts < s .part → linkAt (tasksOf t) s n ≡ stop (UnknownStep n)
     unfolding partAt
     no-part n over = part-here n ∙ rw (lt-ltb (parts (task .task)) (s .part) (omega (arith, parts-here)))
 
@@ -92,18 +92,18 @@ module _ {t : Table} {ids starts : List ℕ} {s : ChainStep} {at : ℕ} (k : Loo
     link = record { task = task .task; part = s .part - 1 }
 
     -- as the definition says
-    pub link-is : (n : ℕ) → s .part ≤ rowAt t at .parts → linkAt (tasksOf t) s n ≡ go link (suc n)
+    pub link-is : (n : ℕ) → s .part ≤ tableRow t at .parts → linkAt (tasksOf t) s n ≡ go link (suc n)
     unfolding partAt link
     link-is n within = part-here n ∙ rw (le-ltb (parts (task .task)) (s .part) (omega (arith, parts-here)))
 
     -- and is kept as the code has it
-    pub spot-is : s .part ≤ rowAt t at .parts → 1 ≤ s .part
+    pub spot-is : s .part ≤ tableRow t at .parts → 1 ≤ s .part
         → IsSpot (tasksOf t) link
         (record {
           task = s .task;
           part = s .part - 1;
-          core = rowAt t at .core;
-          period = rowAt t at .period;
+          core = tableRow t at .core;
+          period = tableRow t at .period;
           start = getD starts at 0;
         })
     unfolding link

@@ -25,14 +25,14 @@ pub record Sound (t : Table) : Type 0 where
   pub fine : codeOf (faultOf t) ≡ 0
 
 -- row i
-abbrev pub rowAt : Table → ℕ → Row
-rowAt t i = getD (t .rows) i zeroRow
+abbrev pub tableRow : Table → ℕ → Row
+tableRow t i = getD (t .rows) i zeroRow
 
 -- its task
 pub record TaskAt (t : Table) (i : ℕ) : Type 0 where
   pub task : Task
   pub place : Place (tasksOf t) i task
-  pub row : rowAt t i ≡ rowOf task
+  pub row : tableRow t i ≡ rowOf task
   pub good : GoodTask task
 
 -- as many tasks as rows
@@ -51,7 +51,7 @@ tasks-each {t} s = each-good t (s .rows) (s .times) (s .fine)
 pub task-at : {t : Table} → Sound t → (i : ℕ) → i < t .count → TaskAt t i
 task-at {t} s i h =
     let found = place-some (tasksOf t) i (omega (arith, tasks-count s)) in
-    let used : rowAt t i ≡ rowOf (found .0)
+    let used : tableRow t i ≡ rowOf (found .0)
     = sym (getD-take (t .count) (t .rows) i zeroRow h)
     ∙ sym (ap (λ (rs : List Row). getD rs i zeroRow) (rows-same t (s .rows) (s .times) (s .fine)))
     ∙ place-get rowOf zeroRow (tasksOf t) i (found .0) (found .1) in

@@ -25,15 +25,15 @@ use Rattle.chains.specs.Promises.{asListed}
 use Rattle.chains.proofs.Steps.{steps-of}
 
 -- the least and the most that a task id and a part may be, as the code has them
-abbrev pub lows : List ℕ
-lows = 1 ∷ 1 ∷ []
+abbrev pub stepLows : List ℕ
+stepLows = 1 ∷ 1 ∷ []
 
-abbrev pub highs : List ℕ
-highs = 65535 ∷ 64 ∷ []
+abbrev pub stepHighs : List ℕ
+stepHighs = 65535 ∷ 64 ∷ []
 
 -- the numbers of one step
 abbrev pub step : List ℕ → ℕ → Step (List ℕ)
-step s p = fieldsAt (fieldAt s) (wanted lows highs) [] p
+step s p = fieldsAt (fieldAt s) (wanted stepLows stepHighs) [] p
 
 -- i steps are read, and the next is wanted at p
 pub record Stepping (s : List ℕ) (at n : ℕ) (numbers : List ℕ) (p i : ℕ) : Type 0 where
@@ -56,7 +56,7 @@ module _ {s : List ℕ} {at n : ℕ} {numbers : List ℕ} {p i : ℕ} (k : Stepp
     unfolding stepsWanted wanted
     next =
         let left : n - i ≡ suc (n - (i + 1)) = omega arith in
-        let one-more = fields-append (fieldAt s) (wanted lows highs) (stepsWanted (n - (i + 1))) (k .done) [] p in
+        let one-more = fields-append (fieldAt s) (wanted stepLows stepHighs) (stepsWanted (n - (i + 1))) (k .done) [] p in
         k .same ∙ rw left (rw append-nil at one-more)
 
     -- one of its numbers is refused
@@ -70,7 +70,7 @@ module _ {s : List ℕ} {at n : ℕ} {numbers : List ℕ} {p i : ℕ} (k : Stepp
       room = rw (k .put) (omega (arith, pad-length 0 64 (k .done) (omega (arith, k .count))))
 
       -- its ranges fit that
-      pub ranges-fit : LowsHighs (length (take (2 * i + 2 - 2 * i) (drop (2 * i) numbers))) lows highs × AllBelow highs 16777216
+      pub ranges-fit : LowsHighs (length (take (2 * i + 2 - 2 * i) (drop (2 * i) numbers))) stepLows stepHighs × AllBelow stepHighs 16777216
       ranges-fit =
           rw (part-length (2 * i) 2 numbers room)
           (record { lows = refl; highs = refl }, more-below (lit< tt) (more-below (lit< tt) (none-below (lit< tt))))

@@ -52,8 +52,8 @@ steps-in l few long = steps-of (l .count) _ (length-take-le (2 * l .count) (l .n
 -- ---- one by one
 
 -- step i as the numbers have it
-abbrev pub stepAt : List ℕ → ℕ → ChainStep
-stepAt ns i = record { task = getD ns (2 * i) 0; part = getD ns (2 * i + 1) 0 }
+abbrev pub listedStep : List ℕ → ℕ → ChainStep
+listedStep ns i = record { task = getD ns (2 * i) 0; part = getD ns (2 * i + 1) 0 }
 
 -- one step more is two numbers more
 twice : (n : ℕ) → 2 * suc n ≡ suc (suc (2 * n))
@@ -69,7 +69,7 @@ steps-drop (suc i) (n ∷ m ∷ ns) = rw (twice i) (steps-drop i ns)
 
 module _ (ns : List ℕ) (n : ℕ) (long : 2 * n ≤ length ns) (i : ℕ) where
   -- the steps from step i on: that one, and the others
-  pub next-step : i < n → drop i (stepsFrom (take (2 * n) ns)) ≡ stepAt ns i ∷ drop (i + 1) (stepsFrom (take (2 * n) ns))
+  pub next-step : i < n → drop i (stepsFrom (take (2 * n) ns)) ≡ listedStep ns i ∷ drop (i + 1) (stepsFrom (take (2 * n) ns))
   unfolding stepsFrom
   next-step h =
       let numbers : drop (2 * i) (take (2 * n) ns) ≡ getD ns (2 * i) 0 ∷ getD ns (2 * i + 1) 0 ∷ drop (2 * i + 1 + 1) (take (2 * n) ns)

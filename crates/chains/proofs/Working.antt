@@ -19,7 +19,7 @@ use Rattle.table.proofs.Codes.{is-good, is-fault}
 use Rattle.chains.specs.declared.About.the-variants as A
 use Rattle.chains.specs.declared.Delayed.{Delayed}
 use Rattle.analysis.specs.Analysis.{saidOf}
-use Rattle.chains.specs.Chains.{noDelay, whole, coresSaid}
+use Rattle.chains.specs.Chains.{noDelay, goodDelay, coresSaid}
 use Rattle.chains.specs.Promises.{Filled, Works, WorksAll}
 
 -- a core that was worked out: it is good, and its bounds are there
@@ -31,7 +31,7 @@ pub record Ready (tasks : List Task) (rooms : List ℕ) (core : ℕ) : Type 0 wh
 pub record Working (tasks : List Task) (cores left : List ℕ) (rooms : List ℕ) (ready : List Bool) : Type 0 where
   pub four : length ready ≡ 4
   pub long : length rooms ≡ 4096
-  pub same : coresSaid tasks cores (whole 0) ≡ coresSaid tasks left (whole 0)
+  pub same : coresSaid tasks cores (goodDelay 0) ≡ coresSaid tasks left (goodDelay 0)
   pub worked : (c : ℕ) → getD ready c false ≡ true → Ready tasks rooms c
   pub passed : (c : ℕ) → c ∈ cores → (c ∈ left) ⊎ (getD ready c false ≡ true)
 
@@ -95,7 +95,7 @@ module _ {tasks : List Task} {cores : List ℕ} {core : ℕ} {left rooms : List 
 
 -- none is left: all are ready
 pub all-worked : {tasks : List Task} {cores rooms : List ℕ} {ready : List Bool} {r : Delayed} → Working tasks cores [] rooms ready
-    → r ≡ whole 0 → WorksAll tasks cores r rooms
+    → r ≡ goodDelay 0 → WorksAll tasks cores r rooms
 unfolding coresSaid
 all-worked w e =
     rw e (record {

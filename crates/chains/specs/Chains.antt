@@ -39,8 +39,8 @@ abbrev pub noDelay : About → Verdict → Delayed
 noDelay about v = record { about = about; verdict = v; delay = 0 }
 
 -- a chain with this delay
-abbrev pub whole : ℕ → Delayed
-whole d = record { about = A.Chain; verdict = Good; delay = d }
+abbrev pub goodDelay : ℕ → Delayed
+goodDelay d = record { about = A.Chain; verdict = Good; delay = d }
 
 -- of cores in step order the first whose code is not 0; where there is none, the answer given
 unfoldable pub coresSaid : List Task → List ℕ → Delayed → Delayed
@@ -55,7 +55,7 @@ stepCore l = l .task .core
 -- a table's answer for the chain that was read: the list's codes, then those of the cores
 unfoldable pub chainSaid : List Task → Step (List Link) → Delayed
 chainSaid tasks (stop v) = noDelay A.List v
-chainSaid tasks (go links n) = coresSaid tasks (map stepCore links) (whole (delay tasks links))
+chainSaid tasks (go links n) = coresSaid tasks (map stepCore links) (goodDelay (delay tasks links))
 
 -- the table's reading codes first
 unfoldable pub answerFor : Step (List Task) → List ℕ → Delayed

@@ -15,11 +15,11 @@ use Rattle.table.specs.Verdicts.{codeOf}
 use Rattle.fields.specs.Stepping.{Step, stop, go}
 use Rattle.analysis.specs.Analysis.{needed, coreBounds, saidOf}
 use Rattle.chains.specs.declared.Delayed.{Delayed}
-use Rattle.chains.specs.declared.Found.{Found}
+use Rattle.chains.specs.declared.Sought.{Sought}
 use Rattle.chains.specs.declared.Listed.{Listed}
 use Rattle.chains.specs.declared.Spot.{Spot}
 use Rattle.chains.specs.Lists.{ChainStep, stepsFrom}
-use Rattle.chains.specs.Chains.{whole, coresSaid}
+use Rattle.chains.specs.Chains.{goodDelay, coresSaid}
 
 -- the numbers of a list as the code holds them
 abbrev pub asListed : Step (List ℕ) → Listed
@@ -66,7 +66,7 @@ pub record Spots (tasks : List Task) (links : List Link) (spots : List Spot) : T
   pub none : (i : ℕ) → length links ≤ i → getD spots i noSpot ≡ noSpot
 
 -- the steps found in their table, by what the definition says
-abbrev pub Finds : List Task → Step (List Link) → Found → Type 0
+abbrev pub Finds : List Task → Step (List Link) → Sought → Type 0
 Finds tasks (stop v) r = r .verdict ≡ v
 Finds tasks (go links n) r = (r .verdict ≡ Good) × Spots tasks links (r .spots)
 
@@ -101,7 +101,7 @@ pub record Works (tasks : List Task) (core : ℕ) (rooms : List ℕ) (r : Verdic
 
 -- cores worked out in step order: what is said of them, and the bounds of all where that is good
 pub record WorksAll (tasks : List Task) (cores : List ℕ) (r : Delayed) (rooms′ : List ℕ) : Type 0 where
-  pub said : r ≡ coresSaid tasks cores (whole 0)
+  pub said : r ≡ coresSaid tasks cores (goodDelay 0)
   pub filled : codeOf (r .verdict) ≡ 0 → (c : ℕ) → c ∈ cores → Filled tasks rooms′ c
 
 -- where a step's bound stands in the rooms
@@ -123,7 +123,7 @@ sumBelow f zero = 0
 sumBelow f (suc n) = sumBelow f n + f n
 
 -- the places of the first n steps are there, and no period or bound is above the limit
-pub record Summable (n : ℕ) (spots : List Spot) (rooms : List ℕ) : Type 0 where
+pub record StepsInRange (n : ℕ) (spots : List Spot) (rooms : List ℕ) : Type 0 where
   pub few : n ≤ 32
   pub inside : (i : ℕ) → i < n → placeIn (getD spots i noSpot) < length rooms
   pub period : (i : ℕ) → i < n → getD spots i noSpot .period ≤ 16777215

@@ -9,9 +9,9 @@ ghost use Rattle.table.specs.Memory.{tasksOf};
 ghost use Rattle.table.specs.Faults.{faultOf};
 ghost use Rattle.fields.specs.Stepping.{stop};
 ghost use Rattle.chains.specs.Lists.{stepsAt, listNumbers};
-ghost use Rattle.chains.specs.Chains.{noDelay, whole, linksAt, chainSaid, delayAnswer};
+ghost use Rattle.chains.specs.Chains.{noDelay, goodDelay, linksAt, chainSaid, delayAnswer};
 ghost use Rattle.chains.specs.Promises.{asListed, FirstAt, Indexed, noSpot, Finds, stepsIn, IsList, OnCores, coresIn};
-ghost use Rattle.chains.specs.Promises.{Works, WorksAll, adding, addedAt, sumBelow, Summable};
+ghost use Rattle.chains.specs.Promises.{Works, WorksAll, adding, addedAt, sumBelow, StepsInRange};
 use fields::Field;
 use fields::Next;
 use fields::Way;
@@ -50,7 +50,7 @@ struct Spot {
 }
 
 // The steps of a chain, or why there is one that the table does not know; behind the last step there is none.
-struct Found {
+struct Sought {
     verdict: Verdict,
     spots: [Spot; 33],
 }
@@ -73,8 +73,8 @@ fn refused(about: About, verdict: Verdict) -> Delayed
 }
 
 // A chain with this delay.
-fn whole_chain(delay: u32) -> Delayed
-    ensures { λ r. ⌜ r ≡ whole delay ⌝ }
+fn good_delay(delay: u32) -> Delayed
+    ensures { λ r. ⌜ r ≡ goodDelay delay ⌝ }
 {
     Delayed {
         about: About::Chain,
@@ -97,10 +97,10 @@ fn no_spot() -> Spot
 }
 
 // Step `i` is unknown.
-fn unknown(i: usize, spots: [Spot; 33]) -> Found
+fn unknown(i: usize, spots: [Spot; 33]) -> Sought
     ensures { λ r. ⌜ r .verdict ≡ UnknownStep i ⌝ }
 {
-    Found {
+    Sought {
         verdict: Verdict::UnknownStep(i),
         spots,
     }
@@ -189,7 +189,7 @@ fn index_rows(t: Table, ids: &mut [u32], starts: &mut [u32])
 }
 
 // What the chain's steps are in their table: the first whose task or part is unknown is refused.
-fn find_steps(t: Table, l: Listed) -> Found
+fn find_steps(t: Table, l: Listed) -> Sought
     requires { ⌜ (codeOf (faultOf t) ≡ 0) × IsList l ⌝ }
     ensures { λ r. ⌜ Finds (tasksOf t) (linksAt (tasksOf t) (stepsIn l) [] 0) r ⌝ }
 {
@@ -223,7 +223,7 @@ fn find_steps(t: Table, l: Listed) -> Found
         i += 1;
     }
     let verdict = Verdict::Good;
-    Found { verdict, spots }
+    Sought { verdict, spots }
 }
 
 // What is said of one core, and its bounds into its part of the rooms, 1,024 a core.
@@ -255,7 +255,7 @@ fn work_out_all(t: Table, n: usize, spots: [Spot; 33], rooms: &mut [u32]) -> Del
         }
         i += 1;
     }
-    whole_chain(0)
+    good_delay(0)
 }
 
 // What a step adds to the delay: its period and its bound, unless the next step is one task with it and a later part.
@@ -273,7 +273,7 @@ fn added(step: Spot, next: Spot, bound: u32) -> u32
 
 // What the first `n` steps add.
 fn sum_of(n: usize, spots: [Spot; 33], rooms: &[u32]) -> u32
-    requires { ⌜ Summable n spots (now rooms) ⌝ }
+    requires { ⌜ StepsInRange n spots (now rooms) ⌝ }
     ensures { λ r. ⌜ r ≡ sumBelow (addedAt spots (now (rooms .entry))) n ⌝ }
 {
     let mut sum: u32 = 0;
@@ -306,7 +306,7 @@ fn delay_in(t: Table, l: Listed) -> Delayed
     if table::code_of(fault) != 0 {
         return said;
     }
-    whole_chain(sum_of(n, spots, &rooms))
+    good_delay(sum_of(n, spots, &rooms))
 }
 
 // The delay along the chain that a list names in a table file.

@@ -27,14 +27,14 @@ use Rattle.chains.specs.declared.Delayed.{Delayed}
 use Rattle.chains.specs.Lists.{ChainStep}
 use Rattle.chains.specs.Chains.{partAt, linkAt, linksAt, noDelay, coresSaid, stepCore}
 use Rattle.demands.specs.Rules.{GoodFile}
-use Rattle.demands.specs.Chains.{Names, AllNamed, FirstUnknown, CoreSays, FirstRefused, AllPass}
+use Rattle.demands.specs.Chains.{Names, AllNamed, FirstUnknown, CoreSays, FirstRefused, AllCoresPass}
 use Rattle.demands.proofs.CoreRule.{rule-said, said-rule, good-or-not}
 use Rattle.demands.proofs.GoodFile.{one-task, core-good}
 
 -- ---- the first of a list
 
 -- the first element of which Q holds: P holds of all before it
-record FirstAt {A : Type 0} (P Q : A → Type 0) (xs : List A) : Type 0 where
+record FirstOf {A : Type 0} (P Q : A → Type 0) (xs : List A) : Type 0 where
   n : ℕ
   x : A
   here : Place xs n x
@@ -50,12 +50,12 @@ module _ {A : Type 0} (P Q : A → Type 0) where
   before-more x xs n p before (suc i) y h e = before i y (omega arith) e
 
   -- where each element is one of the two, P holds of all, or there is a first of which Q does
-  all-or-first : (xs : List A) → ((x : A) → x ∈ xs → P x ⊎ Q x) → ((x : A) → x ∈ xs → P x) ⊎ FirstAt P Q xs
+  all-or-first : (xs : List A) → ((x : A) → x ∈ xs → P x ⊎ Q x) → ((x : A) → x ∈ xs → P x) ⊎ FirstOf P Q xs
   unfolding Place
   all-or-first [] choice = inl (λ x m. absurd (List·Memᴰ·not-nil m))
   all-or-first (y ∷ ys) choice = on (choice y (List·Memᴰ·head refl)) (all-or-first ys (λ x m. choice x (List·Memᴰ·tail m)))
     where
-      on : P y ⊎ Q y → ((x : A) → x ∈ ys → P x) ⊎ FirstAt P Q ys → ((x : A) → x ∈ (y ∷ ys) → P x) ⊎ FirstAt P Q (y ∷ ys)
+      on : P y ⊎ Q y → ((x : A) → x ∈ ys → P x) ⊎ FirstOf P Q ys → ((x : A) → x ∈ (y ∷ ys) → P x) ⊎ FirstOf P Q (y ∷ ys)
       on (inr q) rest = inr (record { n = 0; x = y; here = refl; is = q; before = λ i z h e. absurd (omega arith) })
       on (inl p) (inl all) = inl (λ x m. ⊎-elim (λ e. subst P (sym e) p) (all x) (List·Memᴰ·cases-cons m))
       on (inl p) (inr f) =
@@ -194,7 +194,7 @@ module _ {s : List ℕ} {tasks : List Task} (file : GoodFile s tasks) where
       (good-or-not _ _ _ says)
 
   -- where all cores pass, the answer is given
-  pub all-pass : (answer : Delayed) (links : List Link) → AllPass tasks links → coresSaid tasks (map stepCore links) answer ≡ answer
+  pub all-pass : (answer : Delayed) (links : List Link) → AllCoresPass tasks links → coresSaid tasks (map stepCore links) answer ≡ answer
   unfolding coresSaid good
   all-pass answer [] pass = refl
   all-pass answer (l ∷ links) pass =
@@ -222,7 +222,7 @@ module _ {s : List ℕ} {tasks : List Task} (file : GoodFile s tasks) where
       (good-or-not _ _ _ (f .says))
 
   -- all cores of a chain pass, or there is a first that does not
-  pub pass-or-not : (links : List Link) → AllPass tasks links ⊎ ((core : ℕ) × (v : Verdict) × FirstRefused tasks links core v)
+  pub pass-or-not : (links : List Link) → AllCoresPass tasks links ⊎ ((core : ℕ) × (v : Verdict) × FirstRefused tasks links core v)
   pass-or-not links =
       ⊎-elim inl
       (λ f.

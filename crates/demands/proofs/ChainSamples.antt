@@ -1,7 +1,7 @@
 -- The worked chains hold: what stands on bytes computes; Set A's verdicts and bounds are cited.
 use mathlib.Core.Path.{refl}
 use Rattle.model.proofs.BoundSamples as Model
-use Rattle.model.proofs.ChainSample.{chain-sample}
+use Rattle.model.proofs.DelaySamples.{delay-samples}
 use Rattle.demands.specs.ChainSamples.{ChainSamples}
 use Rattle.demands.proofs.Opened.{chain-answered}
 
@@ -10,7 +10,7 @@ pub chain-samples : ChainSamples
 unfolding chain-answered
 chain-samples =
     let m = Model.samples in
-    let d = chain-sample in
+    let d = delay-samples in
     record {
       chainA = rw (m .goodA .0, d .in-order);
       twice = rw (m .goodA .0, d .twice);

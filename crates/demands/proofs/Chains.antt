@@ -21,10 +21,10 @@ use Rattle.chains.specs.declared.About.{About}
 use Rattle.chains.specs.declared.About.the-variants as A
 use Rattle.chains.specs.declared.Delayed.{Delayed}
 use Rattle.chains.specs.Lists.{ChainStep}
-use Rattle.chains.specs.Chains.{noDelay, whole, stepCore, coresSaid, chainIn, chainSaid, answerFor, delayAnswer}
+use Rattle.chains.specs.Chains.{noDelay, goodDelay, stepCore, coresSaid, chainIn, chainSaid, answerFor, delayAnswer}
 use Rattle.chains.proofs.Fronts.{list-of-the-front, table-of-the-front}
 use Rattle.demands.specs.Rules.{GoodFile}
-use Rattle.demands.specs.Chains.{WholeList, FirstRefused, AllPass, GoodChain, ChainRule, SumIs, ChainSays, Chains}
+use Rattle.demands.specs.Chains.{WholeList, FirstRefused, AllCoresPass, GoodChain, ChainRule, SumIs, ChainSays, Chains}
 use Rattle.demands.proofs.FileRule.{reading-fault, good-read, by-rule, file-rule}
 use Rattle.demands.proofs.ListRule.{rule-list, whole-list, list-rule, list-fine}
 use Rattle.demands.proofs.CoreRule.{good-or-not}
@@ -41,12 +41,12 @@ module _ {s list : List ℕ} {tasks : List Task} {links : List Link} (c : GoodCh
   of-table l m = link-named (c .named) l m .1 .row
 
   -- its cores speak
-  cores-speak : delayAnswer s list ≡ coresSaid tasks (map stepCore links) (whole (delay tasks links))
+  cores-speak : delayAnswer s list ≡ coresSaid tasks (map stepCore links) (goodDelay (delay tasks links))
   unfolding delayAnswer answerFor chainIn chainSaid _then_
   cores-speak = rw (good-read (c .file), whole-list (c .whole), links-read (c .file) (c .named) [] 0 .1)
 
   -- where they all pass, its delay is the answer
-  good-answer : AllPass tasks links → delayAnswer s list ≡ whole (delay tasks links)
+  good-answer : AllCoresPass tasks links → delayAnswer s list ≡ goodDelay (delay tasks links)
   good-answer pass = cores-speak ∙ all-pass (c .file) _ links pass
 
   -- steps with one id are of one task
@@ -70,7 +70,7 @@ record Said (s list : List ℕ) (about : About) (v : Verdict) : Type 0 where
   short : delay ≤ 1073741760
 
 module _ (s list : List ℕ) where
-  -- a noDelay
+  -- a refused answer
   refused-said : {about : About} {v : Verdict} → delayAnswer s list ≡ noDelay about v → Said s list about v
   refused-said e = record { delay = 0; same = e; zero = λ n. refl; short = omega arith }
 
@@ -127,7 +127,7 @@ module _ (s list : List ℕ) where
         ⊎-elim (f .refused) (never (is-good v code)) (good-or-not _ _ _ (f .says))
 
     -- they all pass
-    passed : AllPass tasks links
+    passed : AllCoresPass tasks links
     passed = ⊎-elim (λ pass. pass) (λ f. absurd (none-refused (f .2))) (pass-or-not (c .file) links)
 
     -- so the answer is its delay

@@ -5,7 +5,7 @@ use mathlib.Core.List.{List, [], _∷_}
 use Rattle.table.specs.declared.Verdict.the-variants as C
 use Rattle.chains.specs.declared.About.the-variants as A
 use Rattle.chains.specs.declared.Delayed.{Delayed}
-use Rattle.chains.specs.Chains.{noDelay, whole, delayAnswer}
+use Rattle.chains.specs.Chains.{noDelay, goodDelay, delayAnswer}
 use Rattle.demands.specs.Samples.{bytesA}
 
 -- the answer for Set A and this list
@@ -19,10 +19,10 @@ alongLate list = delayAnswer (bytesA 9) list
 -- all of them
 pub record ChainSamples : Type 0 where
   -- task 1 part 1, task 2 part 1, task 2 part 2: 5 + 1 + 10 + 7
-  pub chainA : alongA (3 ∷ 1 ∷ 1 ∷ 2 ∷ 1 ∷ 2 ∷ 2 ∷ []) ≡ whole 23
+  pub chainA : alongA (3 ∷ 1 ∷ 1 ∷ 2 ∷ 1 ∷ 2 ∷ 2 ∷ []) ≡ goodDelay 23
   -- a part twice: 10 + 7 + 10 + 7; an earlier part after a later one: 10 + 7 + 10 + 4
-  pub twice : alongA (2 ∷ 2 ∷ 2 ∷ 2 ∷ 2 ∷ []) ≡ whole 34
-  pub falling : alongA (2 ∷ 2 ∷ 2 ∷ 2 ∷ 1 ∷ []) ≡ whole 31
+  pub twice : alongA (2 ∷ 2 ∷ 2 ∷ 2 ∷ 2 ∷ []) ≡ goodDelay 34
+  pub falling : alongA (2 ∷ 2 ∷ 2 ∷ 2 ∷ 1 ∷ []) ≡ goodDelay 31
   -- the table's reading codes first
   pub table : delayAnswer (128 ∷ []) [] ≡ noDelay A.File (C.EndsEarly 1)
   -- no list; a list that ends inside a step; a count in two bytes; no step; 33 steps; task 0; part 65; a byte behind the last step

@@ -9,7 +9,7 @@ use Rattle.model.specs.Task.{Task, parts}
 use Rattle.model.specs.Bounds.{onCore}
 use Rattle.model.specs.Machine.{Run}
 use Rattle.model.specs.Chains.{Link}
-use Rattle.machine.specs.Passing.{AllAllowed, Recurs, PeriodicRecurs, Passes, nobody}
+use Rattle.machine.specs.Passing.{AllAllowed, Recurs, PeriodicRecurs, HasPassed, nobody}
 use Rattle.table.specs.declared.Verdict.{Verdict}
 use Rattle.table.specs.declared.Verdict.the-variants as C
 use Rattle.table.specs.Verdicts.{codeOf}
@@ -92,8 +92,8 @@ pub record FirstRefused (tasks : List Task) (links : List Link) (core : ℕ) (v 
   pub before : (i : ℕ) (earlier : Link) → i < n → Place links i earlier → CoreSays tasks (earlier .task .core) C.Good
 
 -- the code of every core on the chain is 0
-abbrev pub AllPass : List Task → List Link → Type 0
-AllPass tasks links = (l : Link) → l ∈ links → CoreSays tasks (l .task .core) C.Good
+abbrev pub AllCoresPass : List Task → List Link → Type 0
+AllCoresPass tasks links = (l : Link) → l ∈ links → CoreSays tasks (l .task .core) C.Good
 
 -- ---- the codes of a chain, and what each speaks of
 
@@ -116,7 +116,7 @@ pub data ChainRule (s list : List ℕ) : About → Verdict → Type 0 where
   -- then those of the first core, in step order, whose code is not 0
   core : {tasks : List Task} {links : List Link} {core : ℕ} {v : Verdict} → GoodChain s list tasks links
       → FirstRefused tasks links core v → ChainRule s list (A.Core core) v
-  good : {tasks : List Task} {links : List Link} → GoodChain s list tasks links → AllPass tasks links
+  good : {tasks : List Task} {links : List Link} → GoodChain s list tasks links → AllCoresPass tasks links
       → ChainRule s list A.Chain C.Good
 
 -- ---- the delay (equation 3)
@@ -162,7 +162,7 @@ pub record ChainSays (s list : List ℕ) (r : Delayed) : Type 0 where
   pub passes : codeOf (r .verdict) ≡ 0 → (tasks : List Task) (links : List Link) → GoodChain s list tasks links
       → (runs : ℕ → Run) → AllAllowed tasks runs → (u : ℕ)
       → ((l : Link) → l ∈ links → Recurs (runs (l .task .core)) (l .task) u)
-      → Passes tasks runs nobody links u (u + r .delay)
+      → HasPassed tasks runs nobody links u (u + r .delay)
 
 -- for every table and list
 pub record Chains : Type 0 where

@@ -19,7 +19,7 @@ use Rattle.model.proofs.Periodic.{released-then}
 use Rattle.model.proofs.Chains.{same-job, delay-last, delay-anew, delay-same}
 use Rattle.machine.specs.NoRunIsLater.{NeverLater, NoRunIsLater}
 use Rattle.machine.specs.Passing.{AllAllowed, Recurs, PeriodicRecurs, Carrier, nobody, job, Anew, EndedBy}
-use Rattle.machine.specs.Passing.{Passes, all, next, same, StepOf, OneTaskAnId, NoValueIsLater}
+use Rattle.machine.specs.Passing.{HasPassed, all, next, same, StepOf, OneTaskAnId, NoValueIsLater}
 use Rattle.machine.proofs.NoRunIsLater.{no-run-is-later}
 
 -- the next release of a periodic run, as many periods after the first tick as cover the time since, comes within a period
@@ -49,7 +49,7 @@ module _ (tasks : List Task) (links : List Link) (steps : (l : Link) → l ∈ l
 
   -- a job ends a step's part, and from then on the value that it brings passes the other steps by tick v
   abbrev Brings : Link → List Link → ℕ → ℕ → Type 0
-  Brings l ls v q = (e : ℕ) × EndedBy tasks runs l q e × Passes tasks runs (job l q) ls e v
+  Brings l ls v q = (e : ℕ) × EndedBy tasks runs l q e × HasPassed tasks runs (job l q) ls e v
 
   -- so does each job of the step's task whose release in tick t leaves time for the delay, less the period that went by before
   abbrev Brought : Link → List Link → ℕ → Type 0
@@ -68,7 +68,7 @@ module _ (tasks : List Task) (links : List Link) (steps : (l : Link) → l ∈ l
 
   -- a value that the next step takes anew waits less than a period for a job
   taken : {c : Carrier} (l : Link) (ls : List Link) → l ∈ links → Anew c l → (w v : ℕ) → u ≤ w → w + delay tasks (l ∷ ls) ≤ v
-      → Brought l ls v → Passes tasks runs c (l ∷ ls) w v
+      → Brought l ls v → HasPassed tasks runs c (l ∷ ls) w v
   taken l ls i new w v since by brought =
       let r = recurs l i w since in
       let b = brought (r .0) (r .1) (omega (arith, r .2)) (r .4) (omega (arith, r .3)) in
@@ -110,7 +110,7 @@ module _ (tasks : List Task) (links : List Link) (steps : (l : Link) → l ∈ l
 
   -- so a value that is there at tick u has passed a chain by each tick that leaves time for its delay
   all-pass : (ls : List Link) → ((k : Link) → k ∈ ls → k ∈ links) → (v : ℕ) → u + delay tasks ls ≤ v
-      → Passes tasks runs nobody ls u v
+      → HasPassed tasks runs nobody ls u v
   all-pass [] inside v by = let end : u ≤ v = omega arith in all end
   all-pass (l ∷ ls) inside v by = taken l ls (inside l (List·Memᴰ·head refl)) tt u v (le-refl u) by (all-bring l ls inside v)
 

@@ -13,11 +13,11 @@ use Rattle.model.specs.Machine.{Stand, standAt, released, ReleasedIn, Ended}
 use Rattle.model.specs.BoundSamples.{a1, a2, setA}
 use Rattle.model.specs.MachineSample.{together}
 use Rattle.model.specs.Chains.{Link, sameJob}
-use Rattle.model.specs.ChainSample.{stepAt, chainA}
+use Rattle.model.specs.DelaySamples.{link, chainA}
 use Rattle.model.proofs.Released.{released-grows}
 use Rattle.model.proofs.Responses.{maxBelow-at}
 use Rattle.model.proofs.Computed.{machine-ticks}
-use Rattle.machine.specs.Passing.{nobody, EndedBy, Passes, all, next, same}
+use Rattle.machine.specs.Passing.{nobody, EndedBy, HasPassed, all, next, same}
 use Rattle.machine.specs.PassingSample.{PassingSample}
 
 -- job q of a step's task has ended its part
@@ -30,7 +30,7 @@ unfolding machine-ticks
 first-job = record { not-before = lit≤ tt; by-then = lit< tt }
 
 -- it ends
-first-end : By (stepAt a1 0) 1 6
+first-end : By (link a1 0) 1 6
 unfolding machine-ticks onCore keep Ended
 first-end = inl (lit< tt)
 
@@ -40,17 +40,17 @@ unfolding machine-ticks
 second-job = record { not-before = lit≤ tt; by-then = lit< tt }
 
 -- it ends part 0
-part-end : By (stepAt a2 0) 1 12
+part-end : By (link a2 0) 1 12
 unfolding machine-ticks onCore keep Ended
 part-end = inr (refl, lit< tt)
 
 -- and part 1
-second-end : By (stepAt a2 1) 1 14
+second-end : By (link a2 1) 1 14
 unfolding machine-ticks onCore keep Ended
 second-end = inl (lit< tt)
 
 -- so the value passes the chain
-by-14 : Passes (setA 20) (λ core. together) nobody chainA 1 14
+by-14 : HasPassed (setA 20) (λ core. together) nobody chainA 1 14
 unfolding sameJob
 by-14 =
     next tt (lit≤ tt) first-job first-end
@@ -74,17 +74,17 @@ not-ended l n few low q e later (inr w) =
     not-below n e (λ h. omega (arith, w .1, maxBelow-at (λ k. stand (l .task) k .at) n e h))
 
 -- so it is with task 1 up to tick 5
-first-late : (q e : ℕ) → 1 ≤ q → By (stepAt a1 0) q e → 6 ≤ e
+first-late : (q e : ℕ) → 1 ≤ q → By (link a1 0) q e → 6 ≤ e
 unfolding machine-ticks onCore keep maxBelow
-first-late = not-ended (stepAt a1 0) 6 (lit≤ tt) (lit≤ tt)
+first-late = not-ended (link a1 0) 6 (lit≤ tt) (lit≤ tt)
 
 -- and with task 2 up to tick 13
-second-late : (q e : ℕ) → 1 ≤ q → By (stepAt a2 1) q e → 14 ≤ e
+second-late : (q e : ℕ) → 1 ≤ q → By (link a2 1) q e → 14 ≤ e
 unfolding machine-ticks onCore keep maxBelow
-second-late = not-ended (stepAt a2 1) 14 (lit≤ tt) (lit≤ tt)
+second-late = not-ended (link a2 1) 14 (lit≤ tt) (lit≤ tt)
 
 -- not sooner: neither job is its task's first
-not-by-13 : Passes (setA 20) (λ core. together) nobody chainA 1 13 → ⊥
+not-by-13 : HasPassed (setA 20) (λ core. together) nobody chainA 1 13 → ⊥
 unfolding machine-ticks sameJob
 not-by-13 (next {t = s} {e = x} new le r end (next {t = t} new′ le′ r′ end′ (same {e = y} one le″ end″ (all le‴)))) =
     let after : 1 ≤ s = omega arith in

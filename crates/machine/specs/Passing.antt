@@ -40,17 +40,17 @@ module _ (tasks : List Task) (runs : ℕ → Run) where
   EndedBy l q e = Ended (standAt (onCore (l .task .core) tasks) (runs (l .task .core)) e (l .task)) q (l .part)
 
   -- a value that is there at tick u, brought by `c`, has passed these steps by tick v
-  pub data Passes : Carrier → List Link → ℕ → ℕ → Type 0 where
+  pub data HasPassed : Carrier → List Link → ℕ → ℕ → Type 0 where
     -- no step is left
-    all : {c : Carrier} {u v : ℕ} → u ≤ v → Passes c [] u v
+    all : {c : Carrier} {u v : ℕ} → u ≤ v → HasPassed c [] u v
     -- a job released at or after the value is there ends the part, and from then on the value is there for the next step
     next : {c : Carrier} {l : Link} {ls : List Link} {u v q t e : ℕ}
         → Anew c l → u ≤ t → ReleasedIn (runs (l .task .core)) (l .task) q t → EndedBy l q e
-        → Passes (job l q) ls e v → Passes c (l ∷ ls) u v
+        → HasPassed (job l q) ls e v → HasPassed c (l ∷ ls) u v
     -- two steps in a row of one task, the later part number larger: the same job passes both
     same : {m l : Link} {ls : List Link} {u v q e : ℕ}
         → sameJob m l ≡ true → u ≤ e → EndedBy l q e
-        → Passes (job l q) ls e v → Passes (job m q) (l ∷ ls) u v
+        → HasPassed (job l q) ls e v → HasPassed (job m q) (l ∷ ls) u v
 
 -- a step of a table: its task is a row of a good core, has a window up to the limit and such a part
 pub record StepOf (tasks : List Task) (l : Link) : Type 0 where
@@ -68,4 +68,4 @@ abbrev pub NoValueIsLater : Type 0
 NoValueIsLater =
     (tasks : List Task) (links : List Link) → ((l : Link) → l ∈ links → StepOf tasks l) → OneTaskAnId links
     → (runs : ℕ → Run) → AllAllowed tasks runs → (u : ℕ) → ((l : Link) → l ∈ links → Recurs (runs (l .task .core)) (l .task) u)
-    → Passes tasks runs nobody links u (u + delay tasks links)
+    → HasPassed tasks runs nobody links u (u + delay tasks links)

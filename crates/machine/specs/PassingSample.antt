@@ -4,8 +4,8 @@ use mathlib.Core.Path.{_≡_}
 use Rattle.model.specs.Machine.{standAt, ReleasedIn}
 use Rattle.model.specs.BoundSamples.{a1, a2, setA}
 use Rattle.model.specs.MachineSample.{together}
-use Rattle.model.specs.ChainSample.{chainA}
-use Rattle.machine.specs.Passing.{nobody, Passes}
+use Rattle.model.specs.DelaySamples.{chainA}
+use Rattle.machine.specs.Passing.{nobody, HasPassed}
 
 -- jobs are counted from 0
 pub record PassingSample : Type 0 where
@@ -17,5 +17,5 @@ pub record PassingSample : Type 0 where
   pub part-ended : standAt (setA 20) together 12 a2 ≡ record { done = 1; at = 1; ran = 0 }
   pub second-done : standAt (setA 20) together 14 a2 ≡ record { done = 2; at = 0; ran = 0 }
   -- so a value that is there at tick 1, after the first releases, passes the chain by tick 14, and not by tick 13
-  pub passed : Passes (setA 20) (λ core. together) nobody chainA 1 14
-  pub not-sooner : Passes (setA 20) (λ core. together) nobody chainA 1 13 → ⊥
+  pub passed : HasPassed (setA 20) (λ core. together) nobody chainA 1 14
+  pub not-sooner : HasPassed (setA 20) (λ core. together) nobody chainA 1 13 → ⊥

@@ -72,7 +72,7 @@ returns-3 c =
     let sum = c .before in
     let e = sum .before .before in
     let call = e .before .before .before in
-    c .whole-chain .ensures
+    c .good-delay .ensures
     ∙ chain-passes (found (steps call)) (call .work-out-all .ensures) (fine e) (rooms e) _ (sum .sum-of .ensures)
 
 pub delay-in-spec : {M : Type 1} → statement M

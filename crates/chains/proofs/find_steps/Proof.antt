@@ -10,7 +10,7 @@ use Rattle.table.specs.Memory.{zeroRow, tasksOf}
 use Rattle.table.proofs.Rows.{length-mapped}
 use Rattle.chains.specs.Lists.{ChainStep, stepsFrom}
 use Rattle.chains.specs.Promises.{stepsIn}
-use Rattle.chains.proofs.Steps.{stepAt, next-step, no-step}
+use Rattle.chains.proofs.Steps.{listedStep, next-step, no-step}
 use Rattle.chains.proofs.Rows.{Sound, count-in}
 use Rattle.chains.proofs.Looking.{ids-taken, Looked, at-inside, no-task, no-part, link-is, spot-is}
 use Rattle.chains.proofs.Finding.{Finding, none-found, one-found, not-found, all-found}
@@ -44,7 +44,7 @@ ids-there c = c .before .before .before .before .ids2 .given
 
 -- the step as the numbers have it
 abbrev step : tie.In-loop Inv-loop μ-loop → ChainStep
-step c = stepAt (called (c .before) .args .l .numbers) (c .before .loop .i)
+step c = listedStep (called (c .before) .args .l .numbers) (c .before .loop .i)
 
 -- and what comes behind it
 next : (c : tie.In-loop Inv-loop μ-loop)

@@ -7,7 +7,7 @@ use Rattle.model.specs.Task.{parts}
 use Rattle.table.specs.declared.Row.{Row}
 use Rattle.table.specs.Memory.{tasksOf}
 use Rattle.table.proofs.Rows.{length-mapped}
-use Rattle.chains.proofs.Rows.{Sound, rowAt, TaskAt, tasks-count, count-in, task-at}
+use Rattle.chains.proofs.Rows.{Sound, tableRow, TaskAt, tasks-count, count-in, task-at}
 use Rattle.chains.proofs.Indexing.{Indexing, none-indexed, one-indexed, all-indexed}
 use Rattle.chains.proofs.index_rows.Statement.{statement}
 use Rattle.chains.proofs.index_rows.Tie as tie
@@ -31,7 +31,7 @@ inside : (c : tie.In-loop Inv-loop μ-loop) → c .before .loop .i < 64
 inside c = omega (arith, c .loop-test .taken, count-in (sound (c .before .before)))
 
 -- its core
-core-there : (c : tie.In-loop Inv-loop μ-loop) → rowAt (c .before .before .args .t1) (c .before .loop .i) .core < 4
+core-there : (c : tie.In-loop Inv-loop μ-loop) → tableRow (c .before .before .args .t1) (c .before .loop .i) .core < 4
 core-there c = let u = task c in omega (arith, ap (λ (r : Row). r .core) (u .row), u .good .core .most)
 
 add-used : tie.Need-add-used Inv-loop μ-loop

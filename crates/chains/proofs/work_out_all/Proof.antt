@@ -88,7 +88,7 @@ returns-2 c =
     let l = c .before in
     let s = l .before .before .before in
     let none = no-core (s .args .n) (s .args .t3) (steps-there s) (l .before .loop .i) (l .loop-test .left) in
-    all-worked (rw none at (l .before .loop .inv)) (c .whole-chain .ensures)
+    all-worked (rw none at (l .before .loop .inv)) (c .good-delay .ensures)
 
 pub work-out-all-spec : {M : Type 1} → statement M
 work-out-all-spec =

@@ -4,12 +4,12 @@ use native.Mathlib.Omega.{arith}
 use Rattle.lists.specs.Lists.{keep, total}
 use Rattle.model.specs.Bounds.{onCore}
 use Rattle.model.specs.Chains.{sameJob, counts, counting, boundOf, stepDelay, delay}
-use Rattle.model.specs.ChainSample.{ChainSample}
+use Rattle.model.specs.DelaySamples.{DelaySamples}
 use Rattle.model.proofs.BoundSamples.{samples}
 
-pub chain-sample : ChainSample
+pub delay-samples : DelaySamples
 unfolding keep total onCore sameJob counts counting boundOf stepDelay delay
-chain-sample =
+delay-samples =
     let r1 = samples .boundsA1 in
     let r2 = samples .boundsA2 in
     record {
