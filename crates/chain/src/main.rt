@@ -66,17 +66,17 @@ fn main() {
         io::write_all(STDERR_FILENO, b"chain: name a table file and a list file\n");
         return;
     }
-    let mut bytes = [0u8; 5124];
-    let table = read_front(1, &mut bytes);
-    if !table.read {
+    let mut table = [0u8; 5124];
+    let table_front = read_front(1, &mut table);
+    if !table_front.read {
         return;
     }
-    let mut numbers = [0u8; 132];
-    let list = read_front(2, &mut numbers);
-    if !list.read {
+    let mut list = [0u8; 132];
+    let list_front = read_front(2, &mut list);
+    if !list_front.read {
         return;
     }
-    let n = table.count;
-    let m = list.count;
-    print(chains::delay(&bytes[..n], &numbers[..m]));
+    let n = table_front.count;
+    let m = list_front.count;
+    print(chains::delay(&table[..n], &list[..m]));
 }

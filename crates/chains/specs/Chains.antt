@@ -16,16 +16,16 @@ use Rattle.chains.specs.declared.About.the-variants as A
 use Rattle.chains.specs.declared.Delayed.{Delayed}
 use Rattle.chains.specs.Lists.{ChainStep, decodeList}
 
--- step n in its table: its task, or 16 for an unknown part
+-- step n, whose task is t: that part of it, counted from 0, or 16 for an unknown part
 unfoldable pub partAt : Task → ChainStep → ℕ → Step Link
 partAt t s n = pick (ltb (parts t) (s .part)) (stop (UnknownStep n)) (go (record { task = t; part = s .part - 1 }) (suc n))
 
--- or for an unknown task
+-- step n in its table; 16 too for an unknown task
 unfoldable pub linkAt : List Task → ChainStep → ℕ → Step Link
 linkAt [] s n = stop (UnknownStep n)
 linkAt (t ∷ ts) s n = pick (eqb (t .id) (s .task)) (partAt t s n) (linkAt ts s n)
 
--- the steps from step n on, behind those that are done
+-- the steps from step n on, behind those that are done; the place is the number of the next step
 unfoldable pub linksAt : List Task → List ChainStep → List Link → ℕ → Step (List Link)
 linksAt tasks [] done n = go done n
 linksAt tasks (s ∷ steps) done n = linkAt tasks s n then λ link n. linksAt tasks steps (done ++ (link ∷ [])) n
@@ -38,7 +38,7 @@ chainIn tasks list = decodeList list then λ steps at. linksAt tasks steps [] 0
 abbrev pub noDelay : About → Verdict → Delayed
 noDelay about v = record { about = about; verdict = v; delay = 0 }
 
--- a chain with this delay
+-- a good answer, with this delay
 abbrev pub goodDelay : ℕ → Delayed
 goodDelay d = record { about = A.Chain; verdict = Good; delay = d }
 

@@ -41,7 +41,7 @@ pub record Indexed (tasks : List Task) (ids starts : List ℕ) : Type 0 where
   pub id : (i : ℕ) (t : Task) → Place tasks i t → getD ids i 0 ≡ t .id
   pub start : (i : ℕ) (t : Task) → Place tasks i t → getD starts i 0 ≡ startOf tasks i t
 
--- what the code keeps of a step: this one, whose row stands at some place of the table
+-- what the code keeps of a step, whose task stands at some place of the table
 pub record IsSpot (tasks : List Task) (l : Link) (s : Spot) : Type 0 where
   pub at : ℕ
   pub row : Place tasks at (l .task)
@@ -79,7 +79,7 @@ pub record IsList (l : Listed) : Type 0 where
   pub few : l .count ≤ 32
   pub part : (s : ChainStep) → s ∈ stepsIn l → 1 ≤ s .part
 
--- the core of a step, at most 3
+-- at most 32 steps, each on one of the four cores
 pub record OnCores (n : ℕ) (spots : List Spot) : Type 0 where
   pub few : n ≤ 32
   pub core : (i : ℕ) → i < n → getD spots i noSpot .core ≤ 3

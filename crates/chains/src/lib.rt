@@ -49,7 +49,7 @@ struct Spot {
     start: u32,
 }
 
-// The steps of a chain, or why there is one that the table does not know; behind the last step there is none.
+// The steps of a chain in their table, or 16 for the first that it does not know; behind the last stands none.
 struct Sought {
     verdict: Verdict,
     spots: [Spot; 33],
@@ -60,6 +60,9 @@ const STEP_LOW: [u32; 2] = [1, 1];
 
 // The most that they may be.
 const STEP_HIGH: [u32; 2] = [65535, 64];
+
+// Room for the bounds of one core: a table has no more parts.
+const ROOM: usize = 1024;
 
 // A refused delay is 0.
 fn refused(about: About, verdict: Verdict) -> Delayed
@@ -72,7 +75,7 @@ fn refused(about: About, verdict: Verdict) -> Delayed
     }
 }
 
-// A chain with this delay.
+// A good answer, with this delay.
 fn good_delay(delay: u32) -> Delayed
     ensures { λ r. ⌜ r ≡ goodDelay delay ⌝ }
 {
@@ -97,12 +100,13 @@ fn no_spot() -> Spot
 }
 
 // Step `i` is unknown.
-fn unknown(i: usize, spots: [Spot; 33]) -> Sought
+fn unknown(i: usize) -> Sought
     ensures { λ r. ⌜ r .verdict ≡ UnknownStep i ⌝ }
 {
+    let none = no_spot();
     Sought {
         verdict: Verdict::UnknownStep(i),
-        spots,
+        spots: [none; 33],
     }
 }
 
@@ -207,11 +211,11 @@ fn find_steps(t: Table, l: Listed) -> Sought
         let part = numbers[2 * i + 1];
         let at = first_at(&ids[..rows], task);
         if at == rows {
-            return unknown(i, spots);
+            return unknown(i);
         }
         let row = t.rows[at];
         if row.parts < part {
-            return unknown(i, spots);
+            return unknown(i);
         }
         spots[i] = Spot {
             task,
@@ -226,17 +230,18 @@ fn find_steps(t: Table, l: Listed) -> Sought
     Sought { verdict, spots }
 }
 
-// What is said of one core, and its bounds into its part of the rooms, 1,024 a core.
+// What is said of one core, and its bounds into its part of the rooms.
 fn work_out(t: Table, core: u32, rooms: &mut [u32]) -> Verdict
     requires { ⌜ (codeOf (faultOf t) ≡ 0) × (core ≤ 3) × (length (now rooms) ≡ 4096) ⌝ }
     ensures { λ r. ⌜ Works (tasksOf t) core (now (rooms .entry)) r (now (rooms .exit)) ⌝ }
 {
-    let a = core as usize * 1024;
-    let answer = analysis::analyse_table(t, core, &mut rooms[a..a + 1024]);
+    let a = core as usize * ROOM;
+    let answer = analysis::analyse_table(t, core, &mut rooms[a..a + ROOM]);
     answer.verdict
 }
 
-// The first core, in step order, whose code is not 0; where there is none, every bound of the chain's cores is in the rooms.
+// The first core, in step order, whose code is not 0; where there is none, a delay of 0 that the caller replaces, and every bound of
+// the chain's cores in the rooms.
 fn work_out_all(t: Table, n: usize, spots: [Spot; 33], rooms: &mut [u32]) -> Delayed
     requires { ⌜ (codeOf (faultOf t) ≡ 0) × OnCores n spots × (length (now rooms) ≡ 4096) ⌝ }
     ensures { λ r. ⌜ WorksAll (tasksOf t) (coresIn n spots) r (now (rooms .exit)) ⌝ }
@@ -281,7 +286,7 @@ fn sum_of(n: usize, spots: [Spot; 33], rooms: &[u32]) -> u32
     while i < n {
         let step = spots[i];
         let next = spots[i + 1];
-        let at = step.core as usize * 1024 + step.start as usize + step.part as usize;
+        let at = step.core as usize * ROOM + step.start as usize + step.part as usize;
         sum += added(step, next, rooms[at]);
         i += 1;
     }
@@ -300,7 +305,7 @@ fn delay_in(t: Table, l: Listed) -> Delayed
     }
     let n = l.count;
     let spots = found.spots;
-    let mut rooms = [0u32; 4096];
+    let mut rooms = [0u32; 4 * ROOM];
     let said = work_out_all(t, n, spots, &mut rooms);
     let fault = said.verdict;
     if table::code_of(fault) != 0 {

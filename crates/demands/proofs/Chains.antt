@@ -154,7 +154,7 @@ module _ (s list : List ℕ) where
               λ q. subst (SumIs tasks links) (sym (its-delay c e) ∙ q) (sum-is tasks links (its-steps c e)),
             );
         short = rw (said .same) (said .short);
-        passes =
+        passed =
             λ e tasks links c runs allowed u recurs.
             rw (its-delay c e) (no-value-is-later tasks links (its-steps c e) (one-id c) runs allowed u recurs);
       }
@@ -164,6 +164,7 @@ pub chains : Chains
 chains =
     record {
       says = chain-says;
+      noValueIsLater = no-value-is-later;
       recurs = periodic-recurs;
       listFront = list-of-the-front;
       tableFront = table-of-the-front;

@@ -9,7 +9,7 @@ use Rattle.model.specs.Task.{Task, parts}
 use Rattle.model.specs.Bounds.{onCore}
 use Rattle.model.specs.Machine.{Run}
 use Rattle.model.specs.Chains.{Link}
-use Rattle.machine.specs.Passing.{AllAllowed, Recurs, PeriodicRecurs, HasPassed, nobody}
+use Rattle.machine.specs.Passing.{AllAllowed, Recurs, PeriodicRecurs, HasPassed, nobody, NoValueIsLater}
 use Rattle.table.specs.declared.Verdict.{Verdict}
 use Rattle.table.specs.declared.Verdict.the-variants as C
 use Rattle.table.specs.Verdicts.{codeOf}
@@ -139,10 +139,10 @@ pub record BoundIs (tasks : List Task) (l : Link) (b : ℕ) : Type 0 where
 -- d is the sum of period and bound over the steps that count
 pub data SumIs (tasks : List Task) : List Link → ℕ → Type 0 where
   none : SumIs tasks [] 0
-  -- both count
+  -- the step counts: its period and its bound are added
   counts : {l : Link} {links : List Link} {b d : ℕ} → Counts l links → BoundIs tasks l b → SumIs tasks links d
       → SumIs tasks (l ∷ links) (l .task .period + b + d)
-  -- only the later counts
+  -- it does not: only the later counts
   later : {l m : Link} {links : List Link} {d : ℕ} → Rising l m → SumIs tasks (m ∷ links) d → SumIs tasks (l ∷ m ∷ links) d
 
 -- ---- what is claimed
@@ -159,7 +159,7 @@ pub record ChainSays (s list : List ℕ) (r : Delayed) : Type 0 where
   -- 32 steps of 16,777,215 and 16,777,215 ticks: 32 bits are enough
   pub short : r .delay ≤ 1073741760
   -- a value that is there at tick u, from which on the tasks of the chain recur, has passed the whole chain by tick u + delay
-  pub passes : codeOf (r .verdict) ≡ 0 → (tasks : List Task) (links : List Link) → GoodChain s list tasks links
+  pub passed : codeOf (r .verdict) ≡ 0 → (tasks : List Task) (links : List Link) → GoodChain s list tasks links
       → (runs : ℕ → Run) → AllAllowed tasks runs → (u : ℕ)
       → ((l : Link) → l ∈ links → Recurs (runs (l .task .core)) (l .task) u)
       → HasPassed tasks runs nobody links u (u + r .delay)
@@ -167,6 +167,8 @@ pub record ChainSays (s list : List ℕ) (r : Delayed) : Type 0 where
 -- for every table and list
 pub record Chains : Type 0 where
   pub says : (s list : List ℕ) → ChainSays s list (delayAnswer s list)
+  -- nor is a value later, by the delay of equation 3, on cores that miss a deadline but whose windows are all within the limit
+  pub noValueIsLater : NoValueIsLater
   -- tasks released exactly a period apart recur so, and such runs are allowed (`PeriodicAllowed`)
   pub recurs : PeriodicRecurs
   -- what the program reads of its two files is enough

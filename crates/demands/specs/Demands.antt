@@ -1,7 +1,7 @@
 -- What the user asked for and what is claimed, all of it together.
 -- Left out, and why: the promises of the functions, which stand at the functions, and are what all of this is about; uniqueness of
 -- promises that are equations, since two results that equal one thing are equal; promises of functions that are
--- offered to the crates above them alone; what the report program reads and writes, of which no contract can speak.
+-- offered to the crates above them alone; what the programs read and write, of which no contract can speak.
 use Rattle.model.specs.MachineSample.{PeriodicAllowed, MachineSample}
 use Rattle.model.specs.BegunSample.{BegunSample}
 use Rattle.model.specs.DelaySamples.{DelaySamples}

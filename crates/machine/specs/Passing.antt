@@ -16,7 +16,8 @@ use Rattle.model.specs.Chains.{Link, sameJob, delay}
 abbrev pub AllAllowed : List Task → (ℕ → Run) → Type 0
 AllAllowed tasks runs = (core : ℕ) → core ≤ 3 → Allowed (onCore core tasks) (runs core)
 
--- from tick u on, the task is released at least once in any stretch of its period
+-- from tick u on, the task is released at least once in any stretch of its period (with releases at least a period apart, as in
+-- demand 3, that is one exactly every period)
 abbrev pub Recurs : Run → Task → ℕ → Type 0
 Recurs run task u = (t : ℕ) → u ≤ t → (q : ℕ) × (s : ℕ) × (t ≤ s) × (s < t + task .period) × ReleasedIn run task q s
 
