@@ -76,6 +76,8 @@ fn set_a_cases() -> Vec<Case> {
         ("an unknown part", vec![(1, 2)]),
         ("a part too many at step 2", vec![(1, 1), (2, 2), (2, 3)]),
         ("a part of the row behind", vec![(2, 1), (1, 2), (9, 9)]),
+        ("unknown parts, rising", vec![(2, 3), (2, 4)]),
+        ("an unknown task, rising", vec![(4, 1), (4, 2)]),
         ("part 64", vec![(3, 64)]),
         ("task 65,535", vec![(65_535, 64)]),
     ];

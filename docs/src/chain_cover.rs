@@ -6,8 +6,8 @@ use crate::table::Row;
 use crate::Run;
 use std::collections::{BTreeMap, BTreeSet};
 
-/// What a run has to reach at least once.
-const WANTED: [&str; 42] = [
+/// What the drawn cases of a run have to reach at least once.
+const WANTED: [&str; 44] = [
     "file code 1",
     "file code 2",
     "file code 3",
@@ -33,6 +33,7 @@ const WANTED: [&str; 42] = [
     "code 16, an unknown task at a later step",
     "code 16, an unknown part at step 0",
     "code 16, an unknown part at a later step",
+    "code 16, at a step that does not count",
     "code 16, and an earlier step's core is refused as well",
     "core code 11, the first step's core",
     "core code 11, a later core",
@@ -42,7 +43,8 @@ const WANTED: [&str; 42] = [
     "good: 32 steps",
     "good: one core",
     "good: two cores",
-    "good: three cores or four",
+    "good: three cores",
+    "good: four cores",
     "good: in a row, a task's part rises",
     "good: in a row, a task's part rises twice",
     "good: in a row, a task's part stays",
@@ -58,10 +60,11 @@ type Counts<K> = BTreeMap<K, u64>;
 #[derive(Default)]
 pub struct Coverage {
     pub difference: Option<Run>,
+    /// Drawn cases by what they reached, and by what their tables and their lists are there for.
     met: Counts<String>,
-    /// Drawn cases by what their tables and their lists are there for.
     tables: Counts<&'static str>,
     lists: Counts<&'static str>,
+    /// The largest delay of a drawn case.
     largest: u64,
     pub unanswered: u64,
     given_up: u64,
@@ -116,11 +119,12 @@ pub fn answer(line: &str) -> Option<Answer> {
 
 // ---- The same case without its fault ----
 
-/// What is left of a refused case without its fault, to see whether more is wrong with it: the list on a table without rows,
-/// the list without its tail, or the steps before the unknown one.
+/// What is left of a refused drawn case without its fault, to see whether more is wrong with it: the list on a table without
+/// rows, the list without its tail, or the steps before the unknown one.
 pub fn without_fault(run: &Run) -> Option<[Vec<u8>; 2]> {
     let (table, given) = (&run.case.table.1, &run.case.list.1);
     match answer(&run.second)? {
+        _ if run.is_fixed => None,
         Answer::File(_) => Some([vec![0], given.clone()]),
         Answer::List { code: 8, number } => Some([table.clone(), given[..number].to_vec()]),
         Answer::List { code: 16, number } if number > 0 => {
@@ -133,16 +137,18 @@ pub fn without_fault(run: &Run) -> Option<[Vec<u8>; 2]> {
 // ---- What a case reached ----
 
 impl Coverage {
-    /// Adds a case, and what the second program says of it without its fault.
+    /// Adds a case, and what the second program says of it without its fault. Of a fixed one only whether it was answered: they
+    /// reach all that is wanted, and would hide draws that reach nothing.
     pub fn add(&mut self, run: &Run, without_fault: &str) {
         let Some(found) = answer(&run.second) else {
             self.unanswered += 1;
             return;
         };
-        if !run.is_fixed {
-            *self.tables.entry(run.case.table.0).or_default() += 1;
-            *self.lists.entry(run.case.list.0).or_default() += 1;
+        if run.is_fixed {
+            return;
         }
+        *self.tables.entry(run.case.table.0).or_default() += 1;
+        *self.lists.entry(run.case.list.0).or_default() += 1;
         let more = answer(without_fault);
         match found {
             Answer::Delay(delay) => self.add_good(&run.case, delay),
@@ -186,11 +192,15 @@ impl Coverage {
     }
 
     fn add_unknown(&mut self, case: &Case, step: usize, more: Option<Answer>) {
-        let (task, _) = case.steps()[step];
-        let is_task = case.rows().iter().any(|row| row.id == task);
+        let steps = case.steps();
+        let is_task = case.rows().iter().any(|row| row.id == steps[step].0);
         let what = if is_task { "part" } else { "task" };
         let place = if step == 0 { "step 0" } else { "a later step" };
         self.reach(&format!("code 16, an unknown {what} at {place}"));
+        let next = steps.get(step + 1);
+        if next.is_some_and(|next| rises(&steps[step], next)) {
+            self.reach("code 16, at a step that does not count");
+        }
         if let Some(Answer::Core { .. }) = more {
             self.reach("code 16, and an earlier step's core is refused as well");
         }
@@ -220,15 +230,15 @@ impl Coverage {
         match cores.len() {
             1 => self.reach("good: one core"),
             2 => self.reach("good: two cores"),
-            _ => self.reach("good: three cores or four"),
+            3 => self.reach("good: three cores"),
+            4 => self.reach("good: four cores"),
+            _ => {}
         }
         self.add_pairs(&steps);
     }
 
     /// What two steps in a row, or three, have of one task.
     fn add_pairs(&mut self, steps: &[Step]) {
-        let same_task = |a: &Step, b: &Step| a.0 == b.0;
-        let rises = |a: &Step, b: &Step| same_task(a, b) && a.1 < b.1;
         let any_pair = |fits: &dyn Fn(&Step, &Step) -> bool| {
             steps.windows(2).any(|pair| fits(&pair[0], &pair[1]))
         };
@@ -244,11 +254,11 @@ impl Coverage {
             ),
             (
                 "good: part numbers rise from task to task",
-                any_pair(&|a, b| !same_task(a, b) && a.1 < b.1),
+                any_pair(&|a, b| a.0 != b.0 && a.1 < b.1),
             ),
             (
                 "good: no two steps in a row have one task",
-                steps.len() > 1 && !any_pair(&same_task),
+                steps.len() > 1 && !any_pair(&|a, b| a.0 == b.0),
             ),
             (
                 "good: in a row, a task's part rises twice",
@@ -267,14 +277,14 @@ impl Coverage {
 
     // ---- At the end ----
 
-    /// What no case reached.
+    /// What no drawn case reached.
     pub fn never_reached(&self) -> Vec<&'static str> {
         let is_missing = |name: &&str| !self.met.contains_key(*name);
         WANTED.into_iter().filter(is_missing).collect()
     }
 
     pub fn print(&self) {
-        println!("cases by what they reached:");
+        println!("drawn cases by what they reached:");
         for name in WANTED {
             println!("  {name}: {}", self.met.get(name).unwrap_or(&0));
         }
@@ -284,10 +294,15 @@ impl Coverage {
                 println!("  {name}: {count}");
             }
         }
-        println!("largest delay: {} ticks", self.largest);
+        println!("largest delay of a drawn case: {} ticks", self.largest);
         println!("cases without an answer: {}", self.unanswered);
         println!("draws that gave up, and took one row: {}", self.given_up);
     }
+}
+
+/// Whether the second step is a later part of the first one's task, so that the first does not count.
+fn rises(first: &Step, second: &Step) -> bool {
+    first.0 == second.0 && first.1 < second.1
 }
 
 /// Whether a task is left and comes again.

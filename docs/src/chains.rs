@@ -1,6 +1,6 @@
 //! The chains of a run: a table file, and a list of steps on it.
 
-use crate::damage::{change, cut, make_longer, outside, trail};
+use crate::damage::{change, cut, damaged, make_longer, outside, trail};
 use crate::draws::Draws;
 use crate::effort::quick;
 use crate::files::{drawn, Named};
@@ -59,13 +59,14 @@ pub fn drawn_chain(draws: &mut Draws) -> Case {
 // ---- Tables ----
 
 fn drawn_table(draws: &mut Draws) -> Named {
-    match draws.below(30) {
+    match draws.below(32) {
         0..=5 => ("light table", file(&good(draws, &LIGHT))),
         6..=17 => ("light table with wide deadlines", file(&wide(draws))),
         18..=21 => ("light table with a refused core", file(&spoiled(draws))),
         22..=23 => ("small table", file(&good(draws, &SMALL))),
         24..=25 => ("middle table", file(&good(draws, &MIDDLE))),
         26..=27 => ("table with long windows", file(&good(draws, &LONG))),
+        28..=29 => with_a_fault(draws),
         _ => drawn(draws),
     }
 }
@@ -92,6 +93,13 @@ fn spoiled(draws: &mut Draws) -> Vec<Row> {
     } else {
         table
     }
+}
+
+/// A damaged table: any code of a file about as often as another.
+fn with_a_fault(draws: &mut Draws) -> Named {
+    // Cut off, too long a number, out of range, clashing rows (for three codes), too many times, and bytes behind.
+    let which = draws.pick(&[0, 2, 4, 7, 7, 7, 12, 13]);
+    damaged(draws, which)
 }
 
 // ---- Lists ----
@@ -125,7 +133,12 @@ fn drawn_list(draws: &mut Draws, rows: &[Row]) -> Named {
             make_unknown(draws, rows, &mut steps);
             ("an unknown step", list(&steps))
         }
-        22..=23 => ("steps and more", trail(draws, list(&steps))),
+        22..=23 => {
+            if draws.one_in(4) {
+                make_unknown(draws, rows, &mut steps);
+            }
+            ("steps and more", trail(draws, list(&steps)))
+        }
         24..=25 => ("steps cut off", cut(draws, list(&steps))),
         26..=28 => ("a faulty number", faulty(draws, &steps)),
         _ => {
@@ -169,22 +182,30 @@ fn next_step(draws: &mut Draws, rows: &[Row], before: &[Step]) -> Step {
     (row.id, draws.between(1, row.times.len() as u64))
 }
 
-/// Takes a step's task or part out of the table.
+/// Takes a step's task or part out of the table; every third time the next step is a later part of that task, so that the
+/// first unknown one does not count.
 fn make_unknown(draws: &mut Draws, rows: &[Row], steps: &mut [Step]) {
     let place = draws.below(steps.len());
-    let (task, part) = &mut steps[place];
-    let row = rows.iter().find(|row| row.id == *task);
+    let (task, part) = unknown(draws, rows, steps[place]);
+    steps[place] = (task, part);
+    if place + 1 < steps.len() && part < MOST_PARTS && draws.one_in(3) {
+        steps[place + 1] = (task, draws.any_size(part + 1, MOST_PARTS));
+    }
+}
+
+/// A step of which the table has no task or no part.
+fn unknown(draws: &mut Draws, rows: &[Row], (mut task, part): Step) -> Step {
+    let row = rows.iter().find(|row| row.id == task);
     let parts = row.map_or(MOST_PARTS, |row| row.times.len() as u64);
     if parts < MOST_PARTS && draws.one_in(2) {
-        *part = draws.any_size(parts + 1, MOST_PARTS);
-        return;
+        return (task, draws.any_size(parts + 1, MOST_PARTS));
     }
     let any = draws.between(1, MOST_ID);
-    let near = draws.pick(&[*task - 1, *task + 1, any]);
-    *task = near.clamp(1, MOST_ID);
-    while rows.iter().any(|row| row.id == *task) {
-        *task = draws.between(1, MOST_ID);
+    task = draws.pick(&[task - 1, task + 1, any]).clamp(1, MOST_ID);
+    while rows.iter().any(|row| row.id == task) {
+        task = draws.between(1, MOST_ID);
     }
+    (task, part)
 }
 
 /// A list with a number that is too long, not in its shortest form, or out of its range.

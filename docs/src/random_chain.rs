@@ -6,8 +6,8 @@
 //!
 //! The first cases are a fixed list of telling ones, always run whole; the others, up to COUNT in all, are drawn from the seed.
 //! Case number N is the same in every run with the same seed. At the first difference it prints table and list in hex and both
-//! outputs, and leaves with 1. It leaves with 1 too where neither program answered some case, or where no case reached
-//! something that is wanted.
+//! outputs, and leaves with 1. It leaves with 1 too where neither program answered some case, or where no drawn case reached
+//! something that is wanted: with fewer than 3,000 cases that can be.
 
 mod cases;
 mod chain_cases;
