@@ -2,24 +2,28 @@
 
 use crate::program;
 use std::io::{Read, Write};
-use std::process::Stdio;
+use std::process::{Child, Stdio};
 use std::sync::atomic::{AtomicUsize, Ordering};
 use std::sync::mpsc::channel;
-use std::time::Duration;
+use std::time::{Duration, Instant};
 
-/// How long a program may take, and how many bytes of each output are kept.
+/// How long a program may take, how often it is asked whether it ended, and how many bytes of each output are kept.
 const PATIENCE: Duration = Duration::from_secs(20);
+const PAUSE: Duration = Duration::from_millis(1);
 const MOST_PRINTED: u64 = 1_000_000;
+/// What is shown in place of the outputs where there are none.
+pub const NO_END: &str = "(it did not end in time with status 0)";
 
 // ---- One program on one input ----
 
 /// What a program prints on standard output, and on standard error if that is a pipe.
 pub type Printed = [Vec<u8>; 2];
 
-/// What a program prints for the bytes on its standard input; none if it does not end in time.
+/// What a program prints for the bytes on its standard input; none if it does not end in time, or with another status than 0.
 pub fn printed(program: &str, error: Stdio, bytes: &[u8]) -> Result<Option<Printed>, String> {
     let child = program::command(program).stderr(error).spawn();
     let mut child = child.map_err(|error| format!("{program}: {error}"))?;
+    let end = Instant::now() + PATIENCE;
     let (stdin, stdout, stderr) = (child.stdin.take(), child.stdout.take(), child.stderr.take());
     let (sender, receiver) = channel();
     let printed = std::thread::scope(|scope| {
@@ -31,12 +35,25 @@ pub fn printed(program: &str, error: Stdio, bytes: &[u8]) -> Result<Option<Print
             let _ = sender.send([kept(stdout), kept(stderr)]);
         });
         let printed = receiver.recv_timeout(PATIENCE);
-        // Nothing more is wanted of it; a program without an answer is ended here.
+        // Its outputs can end before it does.
+        let is_good = ends_well(&mut child, end);
+        // One that is still at work is ended here.
         let _ = child.kill();
-        printed
+        printed.ok().filter(|_| is_good)
     });
     let _ = child.wait();
-    Ok(printed.ok())
+    Ok(printed)
+}
+
+/// Whether a program ends by itself up to this time, and with status 0.
+fn ends_well(child: &mut Child, end: Instant) -> bool {
+    loop {
+        match child.try_wait() {
+            Ok(Some(status)) => return status.success(),
+            Ok(None) if Instant::now() < end => std::thread::sleep(PAUSE),
+            _ => return false,
+        }
+    }
 }
 
 /// What comes through a pipe, as far as it is kept.

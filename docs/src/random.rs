@@ -21,7 +21,7 @@ mod program;
 mod splitmix;
 mod table;
 
-use compare::{all_cases, printed};
+use compare::{all_cases, printed, NO_END};
 use cover::Coverage;
 use draws::{seed, Draws};
 use files::{drawn, Named};
@@ -45,8 +45,10 @@ fn case(fixed: &[Named], seed: u64, index: usize) -> (Named, u64) {
 /// What a program prints for the file on its standard input.
 fn output(program: &str, bytes: &[u8]) -> Result<String, String> {
     let printed = printed(program, Stdio::inherit(), bytes)?;
-    let [output, _] = printed.unwrap_or([b"(no answer in time)\n".to_vec(), Vec::new()]);
-    Ok(String::from_utf8_lossy(&output).into_owned())
+    Ok(match printed {
+        Some([output, _]) => String::from_utf8_lossy(&output).into_owned(),
+        None => format!("{NO_END}\n"),
+    })
 }
 
 /// One file, what the two programs print for it.

@@ -28,7 +28,7 @@ mod two_files;
 use chain_cases::fixed;
 use chain_cover::{without_fault, Coverage};
 use chains::{drawn_chain, Case};
-use compare::Printed;
+use compare::{Printed, NO_END};
 use draws::{seed, Draws};
 use files::Named;
 use numbers::LOOKED_AT;
@@ -102,7 +102,7 @@ fn show(run: &Run) {
     for (which, printed) in ["first", "second"].into_iter().zip(&run.outputs) {
         println!("-- the {which} program printed:");
         match printed {
-            None => println!("(no answer in time)"),
+            None => println!("{NO_END}"),
             Some([output, error]) => {
                 print!("{}", String::from_utf8_lossy(output));
                 if !error.is_empty() {

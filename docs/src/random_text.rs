@@ -28,7 +28,7 @@ mod text_damage;
 mod texts;
 mod ways;
 
-use compare::{all_cases, printed, Printed};
+use compare::{all_cases, printed, Printed, NO_END};
 use draws::{seed, Draws};
 use files::drawn;
 use std::process::{ExitCode, Stdio};
@@ -76,7 +76,7 @@ fn case(plan: &Plan, index: usize) -> (Case, u64) {
     (case, draws.given_up)
 }
 
-/// What both programs for this way print; none if neither does in time.
+/// What both programs for this way print; none if neither ends well in time.
 fn both(plan: &Plan, way: Way, given: &[u8]) -> Result<Option<Printed>, Stop> {
     let first = match way {
         Way::Import => &plan.import,
@@ -190,7 +190,7 @@ fn show(difference: &Difference) {
     for (who, answer) in &found.answers {
         println!("-- {}, the {who}:", found.way.word());
         match answer {
-            None => println!("(no answer in time)"),
+            None => println!("{NO_END}"),
             Some([output, error]) => {
                 println!(
                     "standard output, a {}",

@@ -8,8 +8,8 @@ mod second_input;
 mod second_table;
 
 use second_bounds::{answer, CORES};
-use second_input::input;
-use second_table::{read, Row, FILE_LOOKED_AT};
+use second_input::{input, FILE_LOOKED_AT};
+use second_table::{read, Row};
 use std::io::Write;
 
 /// The lines of one core: its bounds, then its verdict.

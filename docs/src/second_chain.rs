@@ -4,20 +4,19 @@
 //! Build: rustc -O --edition 2021 docs/src/second_chain.rs -o target/second_chain
 //! Usage: second_chain TABLE LIST, the names of two files
 //!
-//! The delay, or what was refused, is one line on standard output. Of wrong use, and of a file that cannot be read, one line
-//! goes to standard error. Its status is always 0, like the chain program's.
+//! The delay, or what was refused, is one line on standard output. The documents give no limit to what is read of the two files,
+//! and none is set here. Of wrong use, and of a file that cannot be read, they say nothing: it leaves with 2.
 
 mod second_bounds;
 mod second_table;
 
 use second_bounds::{answer, Answer, CORES};
-use second_table::{read, refuse, File, Refusal, Row, FILE_LOOKED_AT, MOST_ID, MOST_PARTS};
+use second_table::{read, refuse, File, Refusal, Row, MOST_ID, MOST_PARTS};
 use std::ffi::OsString;
-use std::io::{Read, Write};
+use std::io::Write;
+use std::process::ExitCode;
 
 const MOST_STEPS: u64 = 32;
-/// Enough to judge any list: the last part can start at offset 128 and be a faulty number of four bytes.
-const LIST_LOOKED_AT: u64 = 132;
 
 // ---- The list ----
 
@@ -102,34 +101,25 @@ fn delay(table: &[u8], list: &[u8]) -> Result<u64, String> {
 
 // ---- The program ----
 
-/// A file's first bytes, `most` at the most; none where it cannot be read.
-fn front(name: &OsString, most: u64) -> Option<Vec<u8>> {
-    let mut bytes = Vec::new();
-    let file = std::fs::File::open(name).ok()?;
-    file.take(most).read_to_end(&mut bytes).ok()?;
-    Some(bytes)
+/// The bytes of the two files; none for another number of names, or where one cannot be read.
+fn files() -> Option<[Vec<u8>; 2]> {
+    let names: Vec<OsString> = std::env::args_os().skip(1).collect();
+    let [table, list] = &names[..] else {
+        return None;
+    };
+    Some([std::fs::read(table).ok()?, std::fs::read(list).ok()?])
 }
 
-/// What goes to standard output, or else to standard error.
-fn line(names: &[OsString]) -> Result<String, Vec<u8>> {
-    let [table, list] = names else {
-        return Err(b"chain: name a table file and a list file\n".to_vec());
+fn main() -> ExitCode {
+    let Some([table, list]) = files() else {
+        eprintln!("usage: second_chain TABLE LIST");
+        return ExitCode::from(2);
     };
-    let cannot_read =
-        |name: &OsString| [b"chain: cannot read ", name.as_encoded_bytes(), b"\n"].concat();
-    let table = front(table, FILE_LOOKED_AT).ok_or_else(|| cannot_read(table))?;
-    let list = front(list, LIST_LOOKED_AT).ok_or_else(|| cannot_read(list))?;
-    Ok(match delay(&table, &list) {
+    let line = match delay(&table, &list) {
         Ok(delay) => format!("delay {delay}\n"),
         Err(line) => line,
-    })
-}
-
-fn main() {
-    let names: Vec<OsString> = std::env::args_os().skip(1).collect();
-    // A failing write is left.
-    let _ = match line(&names) {
-        Ok(line) => std::io::stdout().write_all(line.as_bytes()),
-        Err(line) => std::io::stderr().write_all(&line),
     };
+    // A failing write is left.
+    let _ = std::io::stdout().write_all(line.as_bytes());
+    ExitCode::SUCCESS
 }

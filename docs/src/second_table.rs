@@ -7,8 +7,6 @@ pub const MOST_ID: u64 = 65_535;
 pub const MOST_PARTS: u64 = 64;
 /// The largest period, deadline and time, and the limit of a window.
 pub const LIMIT: u64 = 16_777_215;
-/// Enough to judge any file.
-pub const FILE_LOOKED_AT: u64 = 5_124;
 pub const PREEMPTIVE: u64 = 0;
 pub const COOPERATIVE: u64 = 1;
 

@@ -9,10 +9,10 @@
 mod second_input;
 mod second_table;
 
-use second_input::input;
+use second_input::{input, FILE_LOOKED_AT};
 use second_table::{
-    no_clashes, read, refuse, Refusal, Row, COOPERATIVE, FILE_LOOKED_AT, LIMIT, MOST_ID,
-    MOST_PARTS, MOST_ROWS, MOST_TIMES, PREEMPTIVE,
+    no_clashes, read, refuse, Refusal, Row, COOPERATIVE, LIMIT, MOST_ID, MOST_PARTS, MOST_ROWS,
+    MOST_TIMES, PREEMPTIVE,
 };
 use std::io::Write;
 use std::process::ExitCode;

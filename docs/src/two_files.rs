@@ -21,8 +21,8 @@ impl Folder {
         Ok(Folder(path))
     }
 
-    /// What a program prints, given two files of these bytes; none if it does not end in time. The files have a case's number
-    /// in their names, so that each worker has its own.
+    /// What a program prints, given two files of these bytes; none if it does not end in time, or with another status than 0.
+    /// The files have a case's number in their names, so that each worker has its own.
     pub fn ask(
         &self,
         program: &str,
