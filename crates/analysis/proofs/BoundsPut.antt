@@ -9,7 +9,7 @@ use lib.ListN.{length, getD, take, drop, length-append, length-map, length-take}
 use lib.Dec.{ltb}
 use lib.Seq.{append-snoc, getD-take}
 use Rattle.lists.specs.Lists.{pick, Place, each, over, total}
-use Rattle.lists.proofs.Places.{place-in, place-map, place-below}
+use Rattle.lists.proofs.Places.{place-in, place-below, place-get}
 use Rattle.lists.proofs.EachPlaces.{place-right}
 use Rattle.lists.proofs.Each.{each-append, each-snoc, each-length}
 use Rattle.lists.proofs.Overs.{over-none, over-length, over-part, over-last}
@@ -135,7 +135,7 @@ module _ {c : Core} {ws room₀ : List ℕ} (b : ToBound c ws (length room₀)) 
           let w = b .windowed (coming .task) (place-in rows i (coming .task) at-place) in
           let stands : getD ws i 0 ≡ windowLength rows (coming .task)
           = sym (getD-take (length rows) ws i 0 (place-below rows i (coming .task) at-place))
-          ∙ ap (λ (l : List ℕ). getD l i 0) (b .lengths) ∙ place-map (windowLength rows) rows i (coming .task) at-place in
+          ∙ ap (λ (l : List ℕ). getD l i 0) (b .lengths) ∙ place-get (windowLength rows) 0 rows i (coming .task) at-place in
           w .1 ∙ ap At (sym (stands ∙ ap value (w .1)))
 
       -- what its bounds ask for

@@ -7,8 +7,7 @@ use mathlib.Core.List.{List, _∷_, map}
 use lib.ListN.{length, getD, take, length-map, List·getD-append}
 use lib.Dec.{eqb}
 use Rattle.lists.specs.Lists.{_∈_, Place, keep}
-use Rattle.lists.proofs.Places.{place-in, place-below}
-use Rattle.lists.proofs.Walks.{place-get}
+use Rattle.lists.proofs.Places.{place-in, place-below, place-get}
 use Rattle.model.specs.Task.{Task}
 use Rattle.model.specs.Least.{value}
 use Rattle.model.specs.Bounds.{preemptive, cooperative, higher, blocking, rowBounds}

@@ -14,7 +14,7 @@ use Rattle.lists.proofs.Tests.{by-test}
 use Rattle.lists.proofs.Drops.{place-drop}
 use Rattle.lists.proofs.Listed.{listed-length}
 use Rattle.lists.proofs.Totals.{total-same}
-use Rattle.lists.proofs.Places.{place-in, place-at, place-below, place-some, place-map}
+use Rattle.lists.proofs.Places.{place-in, place-at, place-below, place-some, place-get}
 use Rattle.lists.proofs.EachPlaces.{place-listed, place-kept}
 use Rattle.model.specs.Task.{Task, parts}
 use Rattle.model.specs.Rows.{GoodTask}
@@ -88,7 +88,7 @@ module _ {tasks : List Task} {links : List Link} {spots : List Spot} (k : Spots 
       by : (i : ℕ) → i < length links → getD (coresIn (length links) spots) i 0 ≡ getD (map stepCore links) i 0
       by i h =
           let w = place-some links i h in
-          core-at (length links) spots room i h ∙ its-core i (w .0) (w .1) ∙ sym (place-map stepCore links i (w .0) (w .1))
+          core-at (length links) spots room i h ∙ its-core i (w .0) (w .1) ∙ sym (place-get stepCore 0 links i (w .0) (w .1))
 
   -- at most 3
   pub on-cores : OnCores (length links) spots

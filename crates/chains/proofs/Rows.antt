@@ -6,8 +6,7 @@ use mathlib.Core.List.{List}
 use lib.ListN.{length, getD}
 use lib.Seq.{getD-take}
 use Rattle.lists.specs.Lists.{_∈_, Place}
-use Rattle.lists.proofs.Places.{place-in, place-some}
-use Rattle.lists.proofs.Walks.{place-get}
+use Rattle.lists.proofs.Places.{place-in, place-some, place-get}
 use Rattle.model.specs.Task.{Task}
 use Rattle.model.specs.Rows.{GoodTask}
 use Rattle.table.specs.declared.Row.{Row}

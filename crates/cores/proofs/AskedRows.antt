@@ -9,7 +9,7 @@ use Rattle.lists.specs.Lists.{keep, each, largest, padTo, Place}
 use Rattle.lists.proofs.Tests.{by-test}
 use Rattle.lists.proofs.Keep.{keep-map}
 use Rattle.lists.proofs.Each.{each-map}
-use Rattle.lists.proofs.Walks.{place-get}
+use Rattle.lists.proofs.Places.{place-get}
 use Rattle.model.specs.Task.{Task}
 use Rattle.model.specs.Bounds.{preemptive, cooperative, higher, lower, blocking}
 use Rattle.model.proofs.Blocking.{no-blocking, blocking-is}

@@ -4,10 +4,10 @@ use native.Mathlib.Numerals.{add-one}
 use native.Mathlib.Omega.{arith}
 use mathlib.Core.Path.{_≡_, refl, ap, _∙_}
 use mathlib.Core.Bool.{Bool}
-use mathlib.Core.List.{List, [], _∷_, _++_, map, List·Memᴰ·head, List·Memᴰ·tail}
+use mathlib.Core.List.{List, [], _∷_, _++_, List·Memᴰ·head, List·Memᴰ·tail}
 use lib.ListN.{length, getD, take, drop, length-append, take-append-drop}
 use lib.Seq.{drop-cons, drop-drop, getD-take, length-take-le}
-use Rattle.lists.specs.Lists.{_∈_, keep, over, total, Place}
+use Rattle.lists.specs.Lists.{_∈_, keep, over, total}
 use Rattle.lists.proofs.Tests.{by-test}
 use Rattle.lists.proofs.Overs.{drop-over}
 
@@ -43,10 +43,3 @@ module _ {A : Type 0} where
   keep-total f p [] = omega arith
   keep-total f p (x ∷ xs) =
       by-test (p x) (λ e. rw e (omega (arith, keep-total f p xs))) (λ e. rw e (omega (arith, keep-total f p xs)))
-
--- what is made of the element at a place stands there in the list that is made
-pub place-get : {A B : Type 0} (f : A → B) (d : B) (xs : List A) (i : ℕ) (x : A) → Place xs i x → getD (map f xs) i d ≡ f x
-unfolding Place
-place-get f d [] i x p = absurd p
-place-get f d (y ∷ ys) zero x p = ap f p
-place-get f d (y ∷ ys) (suc i) x p = place-get f d ys i x p
