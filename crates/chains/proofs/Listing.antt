@@ -10,45 +10,31 @@ use lib.Dec.{ltb}
 use lib.Seq.{take-at}
 use Rattle.lists.specs.Lists.{pick}
 use Rattle.model.specs.Task.{Task}
-use Rattle.numbers.specs.Numbers.{numberAt}
-use Rattle.numbers.specs.declared.Number.{Number}
-use Rattle.numbers.specs.declared.Number.the-variants as N
 use Rattle.table.specs.declared.Verdict.{Verdict}
-use Rattle.table.specs.declared.Verdict.the-variants.{EndsEarly, Malformed, Trailing}
+use Rattle.table.specs.declared.Verdict.the-variants.{Trailing}
 use Rattle.table.specs.Verdicts.{codeOf, good}
-use Rattle.table.specs.Fields.{Wanted, judge}
 use Rattle.table.proofs.Fine.{AllFine}
-use Rattle.fields.specs.Stepping.{Step, stop, go, _then_, asked, fieldAt, fieldsAt}
+use Rattle.fields.specs.Stepping.{Step, stop, go, _then_, fieldAt, fieldsAt}
 use Rattle.fields.proofs.Taken.{stopped-not, then-read, field-read, in-file, taken-all}
-use Rattle.fields.proofs.Honest.{Honest, stop-honest, go-honest, unless-honest, pick-honest, then-honest, honest-fault, fields-honest}
+use Rattle.fields.proofs.Honest.{Honest, stop-honest, go-honest, pick-honest, then-honest, honest-fault, number-honest, fields-honest}
 use Rattle.chains.specs.declared.Listed.{Listed}
 use Rattle.chains.specs.Lists.{stepCount, stepsWanted, stepsFrom, stepsAt, listNumbers, decodeList}
 use Rattle.chains.specs.Chains.{linksAt, chainIn}
 use Rattle.chains.specs.Promises.{asListed, stepsIn, IsList}
 use Rattle.chains.proofs.Steps.{fine-long, part-from-1, steps-of}
 
--- a number stops reading only at a fault
-field-honest : (s : List ℕ) (w : Wanted) (at : ℕ) → Honest (fieldAt s w at)
-unfolding fieldAt asked good
-field-honest s w at = by (numberAt s at)
-  where
-    by : (x : Number) → Honest (asked w s at x)
-    by (N.Got v n) = unless-honest (judge w at v) v n
-    by N.EndsEarly = stop-honest ℕ (EndsEarly (length s)) refl
-    by N.Malformed = stop-honest ℕ (Malformed at) refl
-
--- so do its steps and the list's end
+-- the steps and the list's end stop reading only at a fault
 steps-honest : (s : List ℕ) (n at : ℕ) → Honest (stepsAt s n at)
 unfolding stepsAt good
 steps-honest s n at =
-    then-honest (fieldsAt (fieldAt s) (stepsWanted n) [] at) _ (fields-honest (fieldAt s) (field-honest s) (stepsWanted n) [] at)
+    then-honest (fieldsAt (fieldAt s) (stepsWanted n) [] at) _ (fields-honest (fieldAt s) (number-honest s) (stepsWanted n) [] at)
     (λ ns end.
     pick-honest (ltb end (length s)) (stop (Trailing end)) (go ns end) (stop-honest (List ℕ) (Trailing end) refl) (go-honest ns end))
 
 -- and the whole list
 list-honest : (s : List ℕ) → Honest (listNumbers s)
 unfolding listNumbers
-list-honest s = then-honest (fieldAt s stepCount 0) _ (field-honest s stepCount 0) (steps-honest s)
+list-honest s = then-honest (fieldAt s stepCount 0) _ (number-honest s stepCount 0) (steps-honest s)
 
 -- the numbers of its steps, each what it may be
 record Numbers (ns : List ℕ) : Type 0 where

@@ -1,15 +1,20 @@
--- Reading stops only at a fault, by any way to read one number that does. Assumes nothing.
+-- Reading stops only at a fault: one number of a file, and more by any way to read one number that does. Assumes nothing.
 use Prim.Native.Nat.{ℕ}
-use mathlib.Core.Path.{_≡_}
+use mathlib.Core.Path.{_≡_, refl}
 use mathlib.Core.Bool.{Bool, true, false}
 use mathlib.Core.List.{List, [], _∷_, _++_}
+use lib.ListN.{length}
 use Rattle.lists.specs.Lists.{pick}
 use Rattle.lists.proofs.Tests.{by-test, never}
+use Rattle.numbers.specs.Numbers.{numberAt}
+use Rattle.numbers.specs.declared.Number.{Number}
+use Rattle.numbers.specs.declared.Number.the-variants as N
 use Rattle.table.specs.declared.Verdict.{Verdict}
+use Rattle.table.specs.declared.Verdict.the-variants.{EndsEarly, Malformed}
 use Rattle.table.specs.Verdicts.{codeOf, good}
-use Rattle.table.specs.Fields.{Wanted, head, rowFrom}
+use Rattle.table.specs.Fields.{Wanted, head, rowFrom, judge}
 use Rattle.table.proofs.Codes.{is-good}
-use Rattle.fields.specs.Stepping.{Step, stop, go, _then_, unless, fieldsAt, rowBy}
+use Rattle.fields.specs.Stepping.{Step, stop, go, _then_, unless, asked, fieldAt, fieldsAt, rowBy}
 
 -- a step that, if it stops, does so at a fault
 unfoldable pub Honest : {A : Type 0} → Step A → Type 0
@@ -47,6 +52,16 @@ module _ {A : Type 0} where
   pub honest-fault : (x : Step A) (v : Verdict) → Honest x → x ≡ stop v → codeOf v ≡ 0 → ⊥
   unfolding Honest
   honest-fault x v h e c = never (is-good v c) (rw e at h)
+
+-- the number wanted at a place of a file
+pub number-honest : (s : List ℕ) (w : Wanted) (at : ℕ) → Honest (fieldAt s w at)
+unfolding fieldAt asked good
+number-honest s w at = by (numberAt s at)
+  where
+    by : (x : Number) → Honest (asked w s at x)
+    by (N.Got v n) = unless-honest (judge w at v) v n
+    by N.EndsEarly = stop-honest ℕ (EndsEarly (length s)) refl
+    by N.Malformed = stop-honest ℕ (Malformed at) refl
 
 module _ (one : Wanted → ℕ → Step ℕ) (own : (w : Wanted) (at : ℕ) → Honest (one w at)) where
   -- numbers one after another
