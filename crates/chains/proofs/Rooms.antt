@@ -6,7 +6,6 @@ use borrow.Author.Tests.{le-ltb}
 use mathlib.Core.Path.{_≡_, sym, ap, _∙_}
 use mathlib.Core.List.{List, _++_}
 use mathlib.Core.Logic.{_⊎_, inl, inr, ⊎-elim}
-use lib.Dec.{eqb}
 use lib.ListN.{length, getD, take, drop, List·getD-append}
 use lib.Seq.{sets, length-sets}
 use Rattle.lists.specs.Lists.{over}
@@ -14,17 +13,15 @@ use Rattle.lists.proofs.Tests.{either}
 use Rattle.lists.proofs.Parts.{part-length}
 use Rattle.lists.proofs.Splices.{splice-sets}
 use Rattle.lists.proofs.Stores.{sets-at, sets-other}
-use Rattle.lists.proofs.Walks.{keep-total}
-use Rattle.model.specs.Task.{Task, parts}
+use Rattle.model.specs.Task.{Task}
 use Rattle.model.specs.Bounds.{onCore}
 use Rattle.table.specs.declared.Table.{Table}
 use Rattle.table.specs.declared.Verdict.{Verdict}
 use Rattle.table.specs.Verdicts.{codeOf}
 use Rattle.table.specs.Memory.{tasksOf}
 use Rattle.table.specs.Faults.{faultOf}
-use Rattle.table.proofs.Ahead.{good-ahead}
 use Rattle.table.proofs.Codes.{or-good}
-use Rattle.table.proofs.Stored.{times-count}
+use Rattle.table.proofs.GoodCore.{core-fits}
 use Rattle.analysis.specs.declared.Analysed.{Analysed}
 use Rattle.analysis.specs.Analysis.{needed, coreBounds, roomSaid, coreSaid, saidOf, writes, roomAfter, tableSaid, Gives, AnalysesTable}
 use Rattle.analysis.proofs.Given.{gives-same, answered-verdict}
@@ -45,10 +42,8 @@ after-good v rows room e k h = rw e (List·getD-append (coreBounds rows) _ 0 k (
 module _ {t : Table} (s : Sound t) where
   -- each core's bounds have room in its part
   pub needed-few : (core : ℕ) → needed (onCore core (tasksOf t)) ≤ 1024
-  unfolding needed onCore
-  needed-few core =
-      let room = good-ahead t (s .rows) (s .times) (s .fine) .room in
-      omega (arith, keep-total parts (λ u. eqb (u .core) core) (tasksOf t), times-count (tasksOf t))
+  unfolding needed
+  needed-few core = core-fits t (s .rows) (s .times) (s .fine) core
 
   -- so good, 11 or 12 is said
   said-here : (core room : ℕ) → core ≤ 3 → room ≡ 1024 → tableSaid t core room ≡ saidOf (tasksOf t) core

@@ -1,4 +1,5 @@
--- The rows of a core of a table without a fault: no priority twice, and no cooperative row above a preemptive one. Assumes nothing.
+-- The rows of a core of a table without a fault: no priority twice, no cooperative row above a preemptive one, and at most 1,024 parts.
+-- Assumes nothing.
 use Prim.Native.Nat.{ℕ, _≤_, _<_}
 use native.Mathlib.Nat.{le-antisymm}
 use native.Mathlib.Omega.{arith}
@@ -9,10 +10,11 @@ use mathlib.Core.Logic.{⊎-elim}
 use mathlib.Core.List.{List, [], _∷_, Memᴰ·map}
 use lib.ListN.{length}
 use lib.Dec.{eqb, ltb}
-use Rattle.lists.specs.Lists.{_∈_, keep}
+use Rattle.lists.specs.Lists.{_∈_, keep, total}
 use Rattle.lists.proofs.Tests.{by-test, never, either}
 use Rattle.lists.proofs.Keep.{kept, keep-length}
-use Rattle.model.specs.Task.{Task}
+use Rattle.lists.proofs.Walks.{keep-total}
+use Rattle.model.specs.Task.{Task, parts}
 use Rattle.model.specs.Rows.{Distinct, GoodCore}
 use Rattle.model.specs.Bounds.{onCore}
 use Rattle.model.proofs.Rows.{same-row}
@@ -25,8 +27,10 @@ use Rattle.table.specs.Memory.{rowOf, tasksOf, rowsOf}
 use Rattle.table.specs.Clash.{coopAbove, breaks, broken, clashOf}
 use Rattle.table.specs.Faults.{faultOf}
 use Rattle.table.proofs.Codes.{first-good, then-good}
+use Rattle.table.proofs.Stored.{times-count}
 use Rattle.table.proofs.GoodTasks.{tasks-good}
 use Rattle.table.proofs.EachGood.{each-good}
+use Rattle.table.proofs.Ahead.{good-ahead}
 use Rattle.table.proofs.NoClash.{Apart, apart-two, rule-holds}
 
 -- two rows of a core have one core
@@ -112,3 +116,11 @@ good-core t rows times e c =
       distinct = d;
       ordered = core-ordered c ts d k;
     }
+
+-- and they have at most 1,024 parts
+pub core-fits : (t : Table) → length (t .rows) ≡ 64 → length (t .times) ≡ 1024 → codeOf (faultOf t) ≡ 0
+    → (c : ℕ) → total parts (onCore c (tasksOf t)) ≤ 1024
+unfolding onCore
+core-fits t rows times e c =
+    let all = good-ahead t rows times e .room in
+    omega (arith, keep-total parts (λ u. eqb (u .core) c) (tasksOf t), times-count (tasksOf t))
