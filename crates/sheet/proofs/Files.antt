@@ -21,7 +21,7 @@ use Rattle.table.proofs.EachGood.{each-good}
 use Rattle.files.specs.declared.Loaded.{Loaded}
 use Rattle.fields.specs.Stepping.{Step, stop, go}
 use Rattle.files.specs.Reading.{decode, loaded, readAnswer}
-use Rattle.files.proofs.Enough.{enough-to-judge}
+use Rattle.files.proofs.Enough.{decodes-alike}
 use Rattle.files.proofs.Back.{file-back}
 use Rattle.files.proofs.Carried.{carried}
 use Rattle.files.proofs.Stops.{stop-fault}
@@ -58,7 +58,8 @@ module _ (s : List ℕ) (l : Loaded) (e : l ≡ readAnswer s) where
 
 -- a longer file is read as its first 5,124 bytes are, so it prints the same
 pub sheet-of-the-front : SheetOfTheFront
-sheet-of-the-front s bs = text-from (take 5124 s) ∙ ap textFrom (enough-to-judge s bs) ∙ sym (text-from s)
+unfolding sheetText
+sheet-of-the-front s bs = ap textOf (decodes-alike s bs)
 
 -- ---- how long the text is
 
