@@ -3,7 +3,7 @@ use Prim.Native.Nat.{ℕ, _≤_, _<_}
 use borrow.Author.Tests.{lt-ltb, le-ltb}
 use mathlib.Core.Path.{_≡_, refl, sym, ap, subst, _∙_}
 use mathlib.Core.Bool.{true, false}
-use mathlib.Core.List.{List}
+use mathlib.Core.List.{List, []}
 use lib.ListN.{length}
 use Rattle.model.specs.Task.{Task}
 use Rattle.model.specs.Bounds.{onCore}
@@ -11,17 +11,14 @@ use Rattle.table.specs.declared.Table.{Table}
 use Rattle.table.specs.declared.Verdict.{Verdict}
 use Rattle.table.specs.declared.Verdict.the-variants.{NoSuchCore}
 use Rattle.table.specs.Verdicts.{codeOf, reading}
-use Rattle.table.specs.Memory.{tasksOf, stored}
+use Rattle.table.specs.Memory.{tasksOf}
 use Rattle.table.specs.Faults.{faultOf}
 use Rattle.table.proofs.Codes.{is-fault, or-good, fault-stays}
-use Rattle.table.proofs.ReadingCodes.{fault-reading, refused-not-0}
-use Rattle.table.proofs.Stored.{tasks-stored}
-use Rattle.table.proofs.GoodTasks.{stored-good}
+use Rattle.table.proofs.ReadingCodes.{fault-reading}
 use Rattle.files.specs.declared.Loaded.{Loaded}
-use Rattle.fields.specs.Stepping.{Step, stop, go}
-use Rattle.files.specs.Reading.{decode, loaded, readAnswer}
-use Rattle.files.proofs.Stops.{stop-fault}
-use Rattle.files.proofs.Back.{file-back}
+use Rattle.fields.specs.Stepping.{stop}
+use Rattle.files.specs.Reading.{decode, readAnswer}
+use Rattle.files.proofs.Stops.{stop-fault, read-stopped, read-went}
 use Rattle.cores.specs.declared.Core.{Core}
 use Rattle.cores.specs.Cores.{coreOf, tasksIn}
 use Rattle.cores.proofs.AskedRows.{tasks-in}
@@ -66,44 +63,18 @@ module _ (t : Table) (core : ℕ) (room : List ℕ) where
   unfolding tableSaid
   faultless fine g = gives-same (sym (or-good (faultOf t) _ fine)) g
 
-module _ (s : List ℕ) (l : Loaded) (read : l ≡ readAnswer s) where
-  -- a table that was read has no fault
-  pub read-faultless : codeOf (l .verdict) ≡ 0 → codeOf (faultOf (l .table)) ≡ 0
-  unfolding readAnswer
-  read-faultless fine = of (decode s) refl
-    where
-      of : (x : Step (List Task)) → decode s ≡ x → codeOf (faultOf (l .table)) ≡ 0
-      of (stop v) e =
-          let own : l .verdict ≡ v = ap (λ (y : Loaded). y .verdict) (read ∙ ap loaded e) in
-          absurd (refused-not-0 v (stop-fault s v e) (sym (ap codeOf own) ∙ fine))
-      of (go ts n) e =
-          let own : l .table ≡ stored ts = ap (λ (y : Loaded). y .table) (read ∙ ap loaded e) in
-          ap (λ (t : Table). codeOf (faultOf t)) own ∙ stored-good ts (file-back s ts n e .good)
+module _ (s : List ℕ) (l : Loaded) (read : l ≡ readAnswer s) (core : ℕ) (room : List ℕ) where
+  -- a refused read
+  pub unread : (k : ℕ) → k ≡ codeOf (l .verdict) → (k ≡ 0 → ⊥)
+      → {r : Analysed} → r ≡ refusal (l .verdict) → Analyses s core room r room
+  unfolding fileSaid fileRows
+  unread k code h told =
+      let v = l .verdict in
+      let there : decode s ≡ stop v = read-stopped s l read (λ z. h (code ∙ z)) in
+      rw there (gives-none v v [] room refl (reading-writes-none v (stop-fault s v there)) told)
 
-  module _ (core : ℕ) (room : List ℕ) where
-    -- a refused read
-    pub unread : (k : ℕ) → k ≡ codeOf (l .verdict) → (k ≡ 0 → ⊥)
-        → {r : Analysed} → r ≡ refusal (l .verdict) → Analyses s core room r room
-    unfolding readAnswer fileSaid fileRows
-    unread k code h {r = r} told = of (decode s) refl
-      where
-        of : (x : Step (List Task)) → decode s ≡ x → Gives (fileSaid x core (length room)) (fileRows x core) room r room
-        of (stop v) e =
-            let own : l .verdict ≡ v = ap (λ (y : Loaded). y .verdict) (read ∙ ap loaded e) in
-            gives-none v v _ room refl (reading-writes-none v (stop-fault s v e)) (told ∙ ap refusal own)
-        of (go ts n) e = absurd (h (code ∙ ap (λ (y : Loaded). codeOf (y .verdict)) (read ∙ ap loaded e)))
-
-    -- a read table: what its core says
-    pub as-table : codeOf (l .verdict) ≡ 0 → {r : Analysed} {room′ : List ℕ} → AnalysesGood (l .table) core room r room′
-        → Analyses s core room r room′
-    unfolding readAnswer fileSaid fileRows
-    as-table fine {r = r} {room′ = room′} g = of (decode s) refl
-      where
-        of : (x : Step (List Task)) → decode s ≡ x → Gives (fileSaid x core (length room)) (fileRows x core) room r room′
-        of (stop v) e =
-            let own : l .verdict ≡ v = ap (λ (y : Loaded). y .verdict) (read ∙ ap loaded e) in
-            absurd (refused-not-0 v (stop-fault s v e) (sym (ap codeOf own) ∙ fine))
-        of (go ts n) e =
-            let own : tasksOf (l .table) ≡ ts
-            = ap (λ (y : Loaded). tasksOf (y .table)) (read ∙ ap loaded e) ∙ tasks-stored ts in
-            subst (λ (us : List Task). Gives (coreSaid core (onCore core us) (length room)) (onCore core us) room r room′) own g
+  -- a read table: what its core says
+  pub as-table : codeOf (l .verdict) ≡ 0 → {r : Analysed} {room′ : List ℕ} → AnalysesGood (l .table) core room r room′
+      → Analyses s core room r room′
+  unfolding fileSaid fileRows
+  as-table fine g = rw (read-went s l read fine .1) g

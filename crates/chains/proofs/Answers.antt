@@ -1,16 +1,12 @@
 -- The answer for a table and a list, by what was read of each. Assumes nothing.
 use Prim.Native.Nat.{ℕ}
-use mathlib.Core.Path.{_≡_, refl, sym, ap, _∙_}
+use mathlib.Core.Path.{_≡_, sym, ap, _∙_}
 use mathlib.Core.List.{List, []}
-use Rattle.model.specs.Task.{Task}
 use Rattle.table.specs.Verdicts.{codeOf}
 use Rattle.table.specs.Memory.{tasksOf}
-use Rattle.table.proofs.ReadingCodes.{refused-not-0}
-use Rattle.table.proofs.Stored.{tasks-stored}
-use Rattle.fields.specs.Stepping.{Step, stop, go}
 use Rattle.files.specs.declared.Loaded.{Loaded}
-use Rattle.files.specs.Reading.{decode, loaded, readAnswer}
-use Rattle.files.proofs.Stops.{stop-fault}
+use Rattle.files.specs.Reading.{readAnswer}
+use Rattle.files.proofs.Stops.{read-stopped, read-went}
 use Rattle.chains.specs.declared.About.the-variants as A
 use Rattle.chains.specs.declared.Listed.{Listed}
 use Rattle.chains.specs.Lists.{listNumbers}
@@ -19,32 +15,16 @@ use Rattle.chains.specs.Promises.{asListed, stepsIn}
 use Rattle.chains.proofs.Listing.{list-refused, list-chain}
 
 module _ (s : List ℕ) (f : Loaded) (read : f ≡ readAnswer s) where
-  -- it holds what was read
-  held : {x : Step (List Task)} → decode s ≡ x → f ≡ loaded x
-  unfolding readAnswer
-  held e = read ∙ ap loaded e
-
   -- a refused table is what is spoken of
   pub file-refused : (codeOf (f .verdict) ≡ 0 → ⊥) → (list : List ℕ) → noDelay A.File (f .verdict) ≡ delayAnswer s list
   unfolding delayAnswer answerFor
-  file-refused bad list = of (decode s) refl
-    where
-      of : (x : Step (List Task)) → decode s ≡ x → noDelay A.File (f .verdict) ≡ answerFor (decode s) list
-      of (stop v) e = rw (e, ap (λ (y : Loaded). y .verdict) (held e))
-      of (go ts n) e = absurd (bad (ap (λ (y : Loaded). codeOf (y .verdict)) (held e)))
+  file-refused bad list = rw (read-stopped s f read bad)
 
   module _ (fine : codeOf (f .verdict) ≡ 0) (list : List ℕ) where
     -- of a good one the chain decides
     by-chain : delayAnswer s list ≡ chainSaid (tasksOf (f .table)) (chainIn (tasksOf (f .table)) list)
     unfolding delayAnswer answerFor
-    by-chain = of (decode s) refl
-      where
-        of : (x : Step (List Task)) → decode s ≡ x
-            → answerFor (decode s) list ≡ chainSaid (tasksOf (f .table)) (chainIn (tasksOf (f .table)) list)
-        of (stop v) e =
-            let own : f .verdict ≡ v = ap (λ (y : Loaded). y .verdict) (held e) in
-            absurd (refused-not-0 v (stop-fault s v e) (sym (ap codeOf own) ∙ fine))
-        of (go ts n) e = rw (e, ap (λ (y : Loaded). tasksOf (y .table)) (held e) ∙ tasks-stored ts)
+    by-chain = rw (read-went s f read fine .1)
 
     module _ (l : Listed) (listed : l ≡ asListed (listNumbers list)) where
       -- a refused list is what is spoken of

@@ -24,10 +24,10 @@ use Rattle.files.specs.Reading.{loaded, readAnswer}
 use Rattle.files.specs.Writing.{encodeFile, fileOf, Wrote}
 use Rattle.files.specs.RoundTrips.{cleared, InMemory}
 use Rattle.files.proofs.Trip.{file-judged, file-here}
-use Rattle.files.proofs.Stops.{good-tasks}
+use Rattle.files.proofs.Stops.{read-went}
 use Rattle.files.proofs.Back.{file-back}
 use Rattle.files.proofs.Short.{file-short}
-use Rattle.files.proofs.RoundTrips.{written-front, stored-written, file-read}
+use Rattle.files.proofs.RoundTrips.{written-front, stored-written, read-tasks, file-read}
 use Rattle.comma.specs.Reading.{linesAt, decodeText, readText}
 use Rattle.comma.specs.Writing.{linesOf, tableLines, WroteText}
 use Rattle.comma.specs.Claims.{ReadAsFile, WrittenTextIsRead, EmptyTextHasNoRows, ReadTextIsWritten, GoodTextIsShort}
@@ -116,16 +116,15 @@ import-is-read s e out r out′ w room =
 -- the text of a good file
 pub export-is-read : ExportIsRead
 export-is-read s e out r out′ w room =
-    let read = good-tasks s e in
-    let ts = read .tasks in
-    let good = file-back s ts (read .next) (read .same) .good in
-    let answer : readAnswer s ≡ record { verdict = Good; table = stored ts } = unfold readAnswer in ap loaded (read .same) in
+    let ts = tasksOf (readAnswer s .table) in
+    let went = read-went s (readAnswer s) refl (ap codeOf e) in
+    let good = file-back s ts (went .0) (went .1) .good in
+    let answer : readAnswer s ≡ record { verdict = Good; table = stored ts } = read-tasks s ts (went .0) (went .1) in
     let table : WroteText (stored ts) out r out′ = rw answer at w in
     let bytes : tableLines (stored ts) ≡ linesOf ts = stored-text (linesOf ts) ts refl in
     let front = front-written _ (linesOf ts) out r out′ ts bytes good table (omega (arith, text-short ts good)) in
     let lines = text-here ts (good .few) (good .fine) in
-    let same : readAnswer (encodeFile ts) ≡ readAnswer s
-    = unfold readAnswer in ap loaded (file-here ts good) ∙ sym (ap loaded (read .same)) in
+    let same : readAnswer (encodeFile ts) ≡ readAnswer s = read-tasks (encodeFile ts) ts _ (file-here ts good) ∙ sym answer in
     (front .0, rw (front .1) (read-as-file (linesOf ts) ts _ lines ∙ same))
 
 -- ---- how long it is

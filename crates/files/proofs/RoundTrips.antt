@@ -23,7 +23,7 @@ use Rattle.files.specs.Reading.{decode, loaded, readAnswer}
 use Rattle.files.specs.Writing.{encodeFile, fileOf}
 use Rattle.files.specs.RoundTrips.{cleared, InMemory, WrittenIsRead, ReadIsWritten}
 use Rattle.files.proofs.Trip.{file-here}
-use Rattle.files.proofs.Stops.{good-tasks}
+use Rattle.files.proofs.Stops.{read-went}
 use Rattle.files.proofs.Back.{file-back}
 
 -- ---- whatever is written
@@ -45,7 +45,7 @@ stored-written s new out r out′ ts same g w room =
 -- ---- files
 
 -- the answer to tasks that were read
-read-tasks : (s : List ℕ) (ts : List Task) (n : ℕ) → decode s ≡ go ts n → readAnswer s ≡ record { verdict = Good; table = stored ts }
+pub read-tasks : (s : List ℕ) (ts : List Task) (n : ℕ) → decode s ≡ go ts n → readAnswer s ≡ record { verdict = Good; table = stored ts }
 unfolding readAnswer
 read-tasks s ts n e = ap loaded e
 
@@ -69,9 +69,9 @@ stored-file s ts e = rw (tasks-stored ts) (sym e)
 -- writing a read file gives its bytes, all of them and no more
 pub read-is-written : ReadIsWritten
 read-is-written s bs l same e out r out′ w room =
-    let read = good-tasks s (sym (ap (λ (x : Loaded). x .verdict) same) ∙ e) in
-    let file = file-back s (read .tasks) (read .next) (read .same) in
-    let table : l .table ≡ stored (read .tasks)
-    = ap (λ (x : Loaded). x .table) (same ∙ read-tasks s (read .tasks) (read .next) (read .same)) in
-    let bytes : fileOf (stored (read .tasks)) ≡ s = stored-file s (read .tasks) (file .bytes bs) in
-    stored-written s _ out r out′ (read .tasks) bytes (file .good) (rw table at w) room
+    let ts = tasksOf (l .table) in
+    let went = read-went s l same (ap codeOf e) in
+    let file = file-back s ts (went .0) (went .1) in
+    let table : l .table ≡ stored ts = ap (λ (x : Loaded). x .table) (same ∙ read-tasks s ts (went .0) (went .1)) in
+    let bytes : fileOf (stored ts) ≡ s = stored-file s ts (file .bytes bs) in
+    stored-written s _ out r out′ ts bytes (file .good) (rw table at w) room

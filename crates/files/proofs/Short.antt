@@ -1,21 +1,23 @@
 -- A good file has at most 5,121 bytes. Assumes nothing.
 use Prim.Native.Nat.{ℕ, _+_, _*_, _≤_}
 use native.Mathlib.Omega.{arith}
-use mathlib.Core.Path.{_≡_, ap}
+use mathlib.Core.Path.{_≡_, refl, ap}
 use mathlib.Core.List.{List, [], _∷_}
 use lib.ListN.{length, length-append}
 use Rattle.lists.specs.Lists.{each}
 use Rattle.numbers.specs.Numbers.{encode, encodeAll}
 use Rattle.numbers.proofs.Laws.{length-one}
 use Rattle.model.specs.Task.{Task}
+use Rattle.table.specs.Verdicts.{codeOf}
 use Rattle.table.specs.Fields.{head, fieldsOf}
-use Rattle.table.specs.Memory.{rowOf, allTimes}
+use Rattle.table.specs.Memory.{rowOf, allTimes, tasksOf}
 use Rattle.table.proofs.GoodTasks.{FineTask, FineTasks, GoodTasks, times-fit}
+use Rattle.files.specs.Reading.{readAnswer}
 use Rattle.files.specs.Writing.{encodeFile}
 use Rattle.files.specs.RoundTrips.{GoodFileIsShort}
 use Rattle.files.proofs.RowBytes.{rowBytes, rowsBytes, row-parts, rows-none, rows-more, file-parts}
 use Rattle.fields.proofs.Sizes.{short, bytes-head, bytes-times}
-use Rattle.files.proofs.Stops.{good-tasks}
+use Rattle.files.proofs.Stops.{read-went}
 use Rattle.files.proofs.Back.{file-back}
 
 -- a row: 16 bytes, and four for each time
@@ -45,6 +47,6 @@ file-short ts g =
 -- a good file is that of good tasks
 pub good-file-is-short : GoodFileIsShort
 good-file-is-short s bs e =
-    let read = good-tasks s e in
-    let file = file-back s (read .tasks) (read .next) (read .same) in
-    omega (arith, ap length (file .bytes bs), file-short (read .tasks) (file .good))
+    let went = read-went s (readAnswer s) refl (ap codeOf e) in
+    let file = file-back s _ (went .0) (went .1) in
+    omega (arith, ap length (file .bytes bs), file-short (tasksOf (readAnswer s .table)) (file .good))

@@ -1,12 +1,10 @@
 -- The text of a file: what reading says of it decides, and it is never longer than 29,842 bytes. Assumes nothing.
 use Prim.Native.Nat.{ℕ, _≤_}
 use native.Mathlib.Omega.{arith}
-use borrow.Author.Tests.{eq-eqb, ne-eqb}
 use mathlib.Core.Path.{_≡_, refl, sym, ap, _∙_}
 use mathlib.Core.List.{List, map}
-use lib.ListN.{length, take, length-map}
-use lib.Dec.{eqb}
-use Rattle.lists.specs.Lists.{pick, _∈_}
+use lib.ListN.{length, length-map}
+use Rattle.lists.specs.Lists.{_∈_}
 use Rattle.lists.proofs.Overs.{take-over}
 use Rattle.lists.proofs.PadStores.{pad-length}
 use Rattle.model.specs.Task.{Task}
@@ -14,17 +12,16 @@ use Rattle.model.specs.Rows.{GoodTask}
 use Rattle.table.specs.declared.Verdict.the-variants.{Good}
 use Rattle.table.specs.Verdicts.{codeOf}
 use Rattle.table.specs.Memory.{zeroRow, rowOf, allTimes, stored, tasksOf}
-use Rattle.table.proofs.ReadingCodes.{refused-not-0}
 use Rattle.table.proofs.Stored.{tasks-stored}
 use Rattle.table.proofs.GoodTasks.{GoodTasks, times-fit, stored-good}
 use Rattle.table.proofs.EachGood.{each-good}
 use Rattle.files.specs.declared.Loaded.{Loaded}
 use Rattle.fields.specs.Stepping.{Step, stop, go}
-use Rattle.files.specs.Reading.{decode, loaded, readAnswer}
+use Rattle.files.specs.Reading.{decode, readAnswer}
 use Rattle.files.proofs.Enough.{decodes-alike}
 use Rattle.files.proofs.Back.{file-back}
 use Rattle.files.proofs.Carried.{carried}
-use Rattle.files.proofs.Stops.{stop-fault}
+use Rattle.files.proofs.Stops.{read-stopped, read-went}
 use Rattle.sheet.specs.Sheet.{fileLine, goodText, textOf, sheetText}
 use Rattle.table.proofs.Writes.{room-good, verdict-said, wrote-count, wrote-bytes}
 use Rattle.sheet.specs.Claims.{TextIsShort, TextIsPrinted, SheetOfTheFront}
@@ -32,29 +29,16 @@ use Rattle.sheet.proofs.Short.{code-short, file-line-short, good-short}
 
 -- ---- what is read
 
--- the text that what was read comes to
-textFrom : Loaded → List ℕ
-textFrom l = pick (eqb (codeOf (l .verdict)) 0) (goodText (tasksOf (l .table))) (fileLine (l .verdict))
-
--- it is the file's
-text-from : (s : List ℕ) → sheetText s ≡ textFrom (readAnswer s)
-unfolding sheetText readAnswer textOf textFrom
-text-from s = of-step (decode s) refl
-  where
-    of-step : (x : Step (List Task)) → decode s ≡ x → textOf (decode s) ≡ textFrom (loaded (decode s))
-    of-step (stop v) q = rw (q, ne-eqb (codeOf v) 0 (refused-not-0 v (stop-fault s v q)))
-    of-step (go ts n) q = rw (q, tasks-stored ts)
-
 module _ (s : List ℕ) (l : Loaded) (e : l ≡ readAnswer s) where
   -- of a file with a reading code
   pub refused-text : (codeOf (l .verdict) ≡ 0 → ⊥) → sheetText s ≡ fileLine (l .verdict)
-  unfolding textFrom
-  refused-text h = text-from s ∙ ap textFrom (sym e) ∙ rw (ne-eqb (codeOf (l .verdict)) 0 h)
+  unfolding sheetText textOf
+  refused-text h = rw (read-stopped s l e h)
 
   -- of a good one
   pub good-text : codeOf (l .verdict) ≡ 0 → sheetText s ≡ goodText (tasksOf (l .table))
-  unfolding textFrom
-  good-text z = text-from s ∙ ap textFrom (sym e) ∙ rw (eq-eqb (codeOf (l .verdict)) 0 z)
+  unfolding sheetText textOf
+  good-text z = rw (read-went s l e z .1)
 
 -- a longer file is read as its first 5,124 bytes are, so it prints the same
 pub sheet-of-the-front : SheetOfTheFront

@@ -1,7 +1,8 @@
 -- `analysis::analyse` meets its contract: the reading codes, then what the core of the table says. Assumes nothing.
 use borrow.Author.Needs.{needs}
 use mathlib.Core.Path.{sym, _∙_}
-use Rattle.analysis.proofs.Tabled.{read-faultless, unread, as-table}
+use Rattle.files.proofs.Stops.{read-faultless}
+use Rattle.analysis.proofs.Tabled.{unread, as-table}
 use Rattle.analysis.proofs.analyse.Statement.{statement}
 use Rattle.analysis.proofs.analyse.Tie as tie
 

@@ -2,7 +2,7 @@
 use borrow.Author.Needs.{needs}
 use mathlib.Core.Path.{_≡_, sym, _∙_}
 use Rattle.table.specs.Verdicts.{codeOf}
-use Rattle.analysis.proofs.Tabled.{read-faultless}
+use Rattle.files.proofs.Stops.{read-faultless}
 use Rattle.chains.specs.declared.About.the-variants as A
 use Rattle.chains.specs.Chains.{noDelay}
 use Rattle.chains.proofs.Listing.{list-is}

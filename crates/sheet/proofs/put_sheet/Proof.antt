@@ -11,7 +11,7 @@ use Rattle.table.specs.Memory.{tasksOf}
 use Rattle.table.specs.Faults.{faultOf}
 use Rattle.files.specs.declared.Loaded.{Loaded}
 use Rattle.files.specs.Reading.{readAnswer}
-use Rattle.analysis.proofs.Tabled.{read-faultless}
+use Rattle.files.proofs.Stops.{read-faultless}
 use Rattle.sheet.specs.Sheet.{fileLine, goodText, sheetText}
 use Rattle.text.specs.Promises.{Fits}
 use Rattle.text.proofs.Puts.{fits-as, put-as}
