@@ -1,17 +1,35 @@
--- An answer with nothing written, and one with all bounds written. Assumes nothing.
-use Prim.Native.Nat.{ℕ}
-use borrow.Author.Tests.{ne-eqb}
+-- What is said of a core that has room, an answer with nothing written, and one with all bounds written. Assumes nothing.
+use Prim.Native.Nat.{ℕ, _≤_}
+use borrow.Author.Tests.{le-ltb, ne-eqb}
 use mathlib.Core.Path.{_≡_, subst}
 use mathlib.Core.Bool.{true, false}
 use mathlib.Core.List.{List}
 use Rattle.lists.specs.Lists.{over}
 use Rattle.lists.proofs.Tests.{by-test}
 use Rattle.model.specs.Task.{Task}
+use Rattle.model.specs.Bounds.{coreVerdict}
 use Rattle.table.specs.declared.Verdict.{Verdict}
 use Rattle.table.specs.Verdicts.{codeOf}
 use Rattle.table.proofs.ReadingCodes.{RefusedReading, refused-not-0, refused-not-12}
 use Rattle.analysis.specs.declared.Analysed.{Analysed}
-use Rattle.analysis.specs.Analysis.{needed, coreBounds, writes, refusal, answered, roomAfter, Gives}
+use Rattle.analysis.specs.Analysis.{needed, coreBounds, named, roomSaid, coreSaid, writes, refusal, answered, roomAfter, Gives}
+
+-- with room for the bounds: good, or code 11 or 12
+pub room-said : (rows : List Task) (room : ℕ) → needed rows ≤ room → roomSaid rows room ≡ named (coreVerdict rows)
+unfolding roomSaid
+room-said rows room fits = rw (le-ltb room (needed rows) fits)
+
+-- so it is on each of the four cores
+pub said-is : (core : ℕ) (rows : List Task) (room : ℕ) → core ≤ 3 → needed rows ≤ room
+    → coreSaid core rows room ≡ named (coreVerdict rows)
+unfolding coreSaid
+said-is core rows room h fits = rw (le-ltb 3 core h) (room-said rows room fits)
+
+-- where bounds are written, they stand in front
+pub room-written : (v : Verdict) (rows : List Task) (room : List ℕ) → writes v ≡ true
+    → roomAfter v rows room ≡ over (coreBounds rows) room
+unfolding roomAfter
+room-written v rows room w = rw w
 
 -- a refused reading writes nothing
 pub reading-writes-none : (v : Verdict) → RefusedReading v → writes v ≡ false

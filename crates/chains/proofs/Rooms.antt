@@ -1,8 +1,6 @@
 -- One core's bounds in its part of the rooms, from what analysis gives for it. Assumes nothing.
 use Prim.Native.Nat.{ℕ, _+_, _-_, _*_, _≤_, _<_}
-use native.Mathlib.Nat.{le-refl}
 use native.Mathlib.Omega.{arith}
-use borrow.Author.Tests.{le-ltb}
 use mathlib.Core.Path.{_≡_, sym, ap, _∙_}
 use mathlib.Core.List.{List, _++_}
 use mathlib.Core.Logic.{_⊎_, inl, inr, ⊎-elim}
@@ -23,8 +21,8 @@ use Rattle.table.specs.Faults.{faultOf}
 use Rattle.table.proofs.Codes.{or-good}
 use Rattle.table.proofs.GoodCore.{core-fits}
 use Rattle.analysis.specs.declared.Analysed.{Analysed}
-use Rattle.analysis.specs.Analysis.{needed, coreBounds, roomSaid, coreSaid, saidOf, writes, roomAfter, tableSaid, Gives, AnalysesTable}
-use Rattle.analysis.proofs.Given.{gives-same, answered-verdict}
+use Rattle.analysis.specs.Analysis.{needed, coreBounds, saidOf, writes, roomAfter, tableSaid, Gives, AnalysesTable}
+use Rattle.analysis.proofs.Given.{said-is, room-written, gives-same, answered-verdict}
 use Rattle.analysis.proofs.BoundsPut.{bounds-length}
 use Rattle.chains.specs.Promises.{Filled, Works}
 use Rattle.chains.proofs.Rows.{Sound}
@@ -36,8 +34,10 @@ apart c core k n h = ⊎-elim (λ x. inl (omega arith)) (λ x. inr (omega arith)
 -- with code 0 analysis leaves the bounds, one for each part
 after-good : (v : Verdict) (rows : List Task) (room : List ℕ) → codeOf v ≡ 0 → (k : ℕ) → k < needed rows
     → getD (roomAfter v rows room) k 0 ≡ getD (coreBounds rows) k 0
-unfolding roomAfter writes over needed coreBounds
-after-good v rows room e k h = rw e (List·getD-append (coreBounds rows) _ 0 k (omega (arith, bounds-length rows rows)))
+unfolding over needed coreBounds
+after-good v rows room e k h =
+    rw (room-written v rows room (unfold writes in rw e))
+    (List·getD-append (coreBounds rows) _ 0 k (omega (arith, bounds-length rows rows)))
 
 module _ {t : Table} (s : Sound t) where
   -- each core's bounds have room in its part
@@ -45,12 +45,13 @@ module _ {t : Table} (s : Sound t) where
   unfolding needed
   needed-few core = core-fits t (s .rows) (s .times) (s .fine) core
 
-  -- so good, 11 or 12 is said
+  -- so what is said of the table's core is what is said with room for every bound
   said-here : (core room : ℕ) → core ≤ 3 → room ≡ 1024 → tableSaid t core room ≡ saidOf (tasksOf t) core
-  unfolding tableSaid coreSaid roomSaid
+  unfolding tableSaid
   said-here core room h e =
-      let all = needed (onCore core (tasksOf t)) in
-      or-good (faultOf t) _ (s .fine) ∙ rw (e, le-ltb 3 core h, le-ltb 1024 all (needed-few core), le-ltb all all (le-refl all))
+      let rows = onCore core (tasksOf t) in
+      or-good (faultOf t) _ (s .fine)
+      ∙ said-is core rows room h (omega (arith, needed-few core)) ∙ sym (said-is core rows (needed rows) h (omega arith))
 
   module _ (core : ℕ) (small : core ≤ 3) (rooms : List ℕ) (long : length rooms ≡ 4096) where
     -- where the core's part begins

@@ -1,9 +1,8 @@
 -- What is printed of a core, from its rows and the bounds that were written, is the core's text. Assumes nothing.
 use Prim.Native.Nat.{ℕ, _+_, _≤_}
 use native.Mathlib.Omega.{arith}
-use borrow.Author.Tests.{le-ltb}
 use mathlib.Core.Path.{_≡_, refl, ap, _∙_}
-use mathlib.Core.Bool.{false}
+use mathlib.Core.Bool.{true, false}
 use mathlib.Core.List.{List, [], _∷_, _++_, append-assoc}
 use lib.ListN.{length, take, drop}
 use lib.Seq.{take-at, drop-at}
@@ -23,8 +22,8 @@ use Rattle.cores.specs.declared.Core.{Core}
 use Rattle.cores.specs.Cores.{tasksIn}
 use Rattle.cores.specs.Promises.{IsCore}
 use Rattle.analysis.specs.declared.Analysed.{Analysed}
-use Rattle.analysis.specs.Analysis.{needed, coreBounds, named, roomSaid, coreSaid, writes, roomAfter, Gives}
-use Rattle.analysis.proofs.Given.{answered-verdict}
+use Rattle.analysis.specs.Analysis.{needed, coreBounds, named, roomSaid, writes, roomAfter, Gives}
+use Rattle.analysis.proofs.Given.{room-said, said-is, room-written, answered-verdict}
 use Rattle.analysis.proofs.BoundsPut.{bounds-long}
 use Rattle.sheet.specs.Sheet.{boundLine, rowLines, coreTextOf, coreText}
 use Rattle.sheet.specs.Promises.{rowText, rowsText, coreBytes, BoundsFor}
@@ -61,23 +60,14 @@ lines-same core rows (t ∷ ts) rest =
     rw (own-front rows t _ rest, own-behind rows t _ rest, row-same core rows t)
     (ap (_++_ (rowLines core rows t)) (lines-same core rows ts rest))
 
--- ---- the verdict
-
--- on one of the four cores, with room for its bounds: good, or code 11 or 12
-pub said-is : (core : ℕ) (rows : List Task) (room : ℕ) → core ≤ 3 → needed rows ≤ room
-    → coreSaid core rows room ≡ named (coreVerdict rows)
-unfolding coreSaid roomSaid
-said-is core rows room h fits = rw (le-ltb 3 core h, le-ltb room (needed rows) fits)
+-- ---- the text
 
 -- without code 11 the bounds are written
-bounds-written : (rows : List Task) (bounds : List ℕ) (v : CoreVerdict) → eqb (codeOf (named v)) 11 ≡ false
-    → roomAfter (named v) rows bounds ≡ over (coreBounds rows) bounds
-unfolding named writes roomAfter
-bounds-written rows bounds passes e = refl
-bounds-written rows bounds (misses t) e = refl
-bounds-written rows bounds (noWindow t) e = absurd (never refl e)
-
--- ---- the text
+does-write : (v : CoreVerdict) → eqb (codeOf (named v)) 11 ≡ false → writes (named v) ≡ true
+unfolding named writes
+does-write passes e = refl
+does-write (misses t) e = refl
+does-write (noWindow t) e = absurd (never refl e)
 
 -- by the verdict and what it leaves of the bounds
 text-of : (core : ℕ) (rows : List Task) (bounds : List ℕ) (v : CoreVerdict)
@@ -85,7 +75,7 @@ text-of : (core : ℕ) (rows : List Task) (bounds : List ℕ) (v : CoreVerdict)
 unfolding coreBytes coreTextOf over coreBounds
 text-of core rows bounds v =
     by-test (eqb (codeOf (named v)) 11) (λ e. rw e)
-    (λ e. rw (e, bounds-written rows bounds v e, lines-same core rows rows _))
+    (λ e. rw (e, room-written (named v) rows bounds (does-write v e), lines-same core rows rows _))
 
 -- so many parts
 parts-in : (ts : List Task) → partsIn (rowsOf ts) ≡ total parts ts
@@ -112,11 +102,11 @@ module _ {c : Core} (k : IsCore c) where
       → {bounds : List ℕ} {a : Analysed} {bounds′ : List ℕ} → length bounds ≡ 1024
       → Gives (roomSaid (tasksIn c) (length bounds)) (tasksIn c) bounds a bounds′
       → coreBytes core (usedRows (c .own)) bounds′ (a .verdict) ≡ coreText (tasksOf t) core
-  unfolding coreText roomSaid
+  unfolding coreText
   text-is t core small own {bounds} {a} {bounds′} long gives =
       let mine : List Task = tasksIn c in
       let fits : needed mine ≤ length bounds = unfold needed in omega (arith, k .fits) in
-      let is : roomSaid mine (length bounds) ≡ named (coreVerdict mine) = rw (le-ltb (length bounds) (needed mine) fits) in
+      let is : roomSaid mine (length bounds) ≡ named (coreVerdict mine) = room-said mine (length bounds) fits in
       let verdict : a .verdict ≡ named (coreVerdict mine)
       = ap (λ (x : Analysed). x .verdict) (gives .answer) ∙ answered-verdict (roomSaid mine (length bounds)) mine ∙ is in
       rw (verdict, gives .left, is, rows-here)

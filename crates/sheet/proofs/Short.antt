@@ -24,10 +24,10 @@ use Rattle.table.specs.declared.Verdict.the-variants.{UnknownStep, BadText}
 use Rattle.table.specs.Verdicts.{codeOf, numberOf}
 use Rattle.table.specs.Memory.{allTimes}
 use Rattle.analysis.specs.Analysis.{needed, named}
+use Rattle.analysis.proofs.Given.{said-is}
 use Rattle.text.specs.Text.{decimal, joined, line}
 use Rattle.sheet.specs.Sheet.{boundLine, coreLine, fileLine, header, partLine, rowLines, coreTextOf, coreText, goodText}
 use Rattle.text.proofs.Decimals.{decimal-short}
-use Rattle.sheet.proofs.CoreTexts.{said-is}
 
 -- ---- lines
 
