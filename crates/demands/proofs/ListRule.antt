@@ -1,20 +1,19 @@
 -- A list of steps is refused exactly when a rule of reading says so, and else its steps are read; these are few, and their parts count
 -- from 1. Assumes nothing.
-use Prim.Native.Nat.{ℕ, zero, suc, _≤_}
-use native.Mathlib.Omega.{arith}
+use Prim.Native.Nat.{ℕ, _≤_}
 use borrow.Author.Tests.{lt-ltb, le-ltb}
-use mathlib.Core.Path.{_≡_, refl, ap}
+use mathlib.Core.Path.{_≡_, refl}
 use mathlib.Core.Logic.{_⊎_, inl, inr, ⊎-elim}
-use mathlib.Core.List.{List, [], _∷_, List·Memᴰ·cases-cons, List·Memᴰ·not-nil}
+use mathlib.Core.List.{List, []}
 use lib.ListN.{length}
 use Rattle.lists.specs.Lists.{_∈_}
 use Rattle.lists.proofs.Tests.{either}
 use Rattle.table.specs.declared.Verdict.{Verdict}
 use Rattle.table.specs.Fields.{Wanted}
-use Rattle.table.proofs.Fine.{AllFine}
 use Rattle.fields.specs.Stepping.{stop, go, _then_, fieldAt, fieldsAt}
 use Rattle.fields.proofs.Taken as taken
 use Rattle.chains.specs.Lists.{ChainStep, stepCount, stepsWanted, stepsFrom, stepsAt, listNumbers, decodeList}
+use Rattle.chains.proofs.Steps.{fine-long, part-from-1, steps-of}
 use Rattle.demands.specs.Reached.{Stands, Along}
 use Rattle.demands.specs.Chains.{ListReached, ListWants, WholeList, ListRule}
 use Rattle.demands.proofs.Along.{stopped-or-not, along-read, fields-reached}
@@ -81,27 +80,12 @@ pub record FineSteps (n : ℕ) (steps : List ChainStep) : Type 0 where
   pub many : length steps ≡ n
   pub from1 : (step : ChainStep) → step ∈ steps → 1 ≤ step .part
 
--- such are those of the numbers wanted
-steps-fine : (n : ℕ) (numbers : List ℕ) → AllFine (stepsWanted n) numbers → FineSteps n (stepsFrom numbers)
-unfolding AllFine stepsWanted stepsFrom
-steps-fine zero [] f = record { many = refl; from1 = λ step m. absurd (List·Memᴰ·not-nil m) }
-steps-fine zero (a ∷ ns) f = absurd f
-steps-fine (suc n) [] f = absurd f
-steps-fine (suc n) (a ∷ []) f = absurd (f .1)
-steps-fine (suc n) (a ∷ b ∷ ns) f =
-    let more = steps-fine n ns (f .1 .1) in
-    record {
-      many = ap suc (more .many);
-      from1 =
-          λ step m.
-          ⊎-elim (λ e. omega (arith, f .1 .0 .least, ap (λ (x : ChainStep). x .part) e)) (more .from1 step) (List·Memᴰ·cases-cons m);
-    }
-
--- and those of a list, of which there are at most 32
+-- such are those of a list, of which there are at most 32
 pub list-fine : {s : List ℕ} {steps : List ChainStep} → WholeList s steps → (n : ℕ) × (n ≤ 32) × FineSteps n steps
 unfolding fieldsAt
 list-fine {s} w =
     let r = w .reached in
     let read = along-read (in-file s) [] (r .behind) in
     let fine = taken.taken-all (taken.in-file s) (stepsWanted (r .count)) (r .at) (w .numbers) (w .at) read .fine in
-    (r .count, r .first .may .range .most, rw (w .are) (steps-fine (r .count) (w .numbers) fine))
+    let many = steps-of (r .count) (w .numbers) (fine-long (r .count) (w .numbers) fine) in
+    (r .count, r .first .may .range .most, rw (w .are) (record { many = many; from1 = part-from-1 (r .count) (w .numbers) fine }))
