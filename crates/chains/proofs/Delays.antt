@@ -19,7 +19,8 @@ use Rattle.lists.proofs.EachPlaces.{place-listed, place-kept}
 use Rattle.model.specs.Task.{Task, parts}
 use Rattle.model.specs.Rows.{GoodTask}
 use Rattle.model.specs.Bounds.{onCore, bound, rowBounds}
-use Rattle.model.specs.Chains.{Link, sameJob, counts, counting, boundOf, stepDelay, delay}
+use Rattle.model.specs.Chains.{Link, sameJob, boundOf, delay}
+use Rattle.model.proofs.Chains.{delay-none, delay-last, delay-anew, delay-same}
 use Rattle.model.proofs.Most.{bound-most}
 use Rattle.analysis.specs.Analysis.{needed, coreBounds}
 use Rattle.analysis.proofs.BoundsPut.{bounds-length}
@@ -136,28 +137,27 @@ module _ {tasks : List Task} {links : List Link} {spots : List Spot} (k : Spots 
 
     -- what step i adds, by the next one
     adds : (i : ℕ) (l : Link) → Place links i l → (next : Spot) → getD spots (suc i) noSpot ≡ next
-        → addedAt spots rooms i ≡ pick (eqb (l .task .id) (next .task) && ltb (l .part) (next .part)) 0 (stepDelay tasks l)
-    unfolding stepDelay
+        → addedAt spots rooms i ≡ pick (eqb (l .task .id) (next .task) && ltb (l .part) (next .part)) 0 (l .task .period + boundOf tasks l)
     adds i l here next e = rw (in-rooms i l here, k .spot i l here .is, e)
 
     -- is its share of the delay
     shares : (i : ℕ) (l : Link) → Place links i l → addedAt spots rooms i + delay tasks (drop (suc i) links) ≡ delay tasks (drop i links)
-    unfolding delay counting counts sameJob total
+    unfolding sameJob
     shares i l here = rw (place-drop links i l here) (by (drop (suc i) links) refl)
       where
-        by : (ls : List Link) → drop (suc i) links ≡ ls
-            → addedAt spots rooms i + total (stepDelay tasks) (counting ls) ≡ total (stepDelay tasks) (counting (l ∷ ls))
+        by : (ls : List Link) → drop (suc i) links ≡ ls → addedAt spots rooms i + delay tasks ls ≡ delay tasks (l ∷ ls)
         by [] e =
             let past : length links ≤ suc i = omega (arith, length-drop (suc i) links, ap length e) in
             let other : l .task .id ≡ 0 → ⊥ = λ z. omega (arith, its-task i l here .id .least) in
-            rw (adds i l here noSpot (k .none (suc i) past), ne-eqb (l .task .id) 0 other)
+            let mine = adds i l here noSpot (k .none (suc i) past) in
+            rw (mine, ne-eqb (l .task .id) 0 other, delay-none tasks, delay-last tasks l) (add-zero _)
         by (m ∷ ls) e =
             let w = place-some links (suc i) (omega (arith, length-drop (suc i) links, ap length e)) in
             let same : m ≡ w .0 = head-eq-of-cons-eq (sym e ∙ place-drop links (suc i) (w .0) (w .1)) in
             let mine = adds i l here _ (k .spot (suc i) (w .0) (w .1) .is) in
-            by-test (eqb (l .task .id) (m .task .id) && ltb (l .part) (m .part))
-            (λ t. rw (mine, ← same, t) (zero-add _))
-            (λ t. rw (mine, ← same, t))
+            by-test (sameJob l m)
+            (λ t. rw (mine, ← same, t, delay-same tasks l m ls t) (zero-add _))
+            (λ t. rw (mine, ← same, t, delay-anew tasks l m ls t))
 
     -- so they are the delay
     sums : (i : ℕ) → i ≤ length links → sumBelow (addedAt spots rooms) i + delay tasks (drop i links) ≡ delay tasks links
@@ -169,8 +169,7 @@ module _ {tasks : List Task} {links : List Link} {spots : List Spot} (k : Spots 
 
     -- all of it
     pub sum-is-delay : sumBelow (addedAt spots rooms) (length links) ≡ delay tasks links
-    unfolding delay counting total
     sum-is-delay =
         let all : length links ≤ length links = omega arith in
         let none : drop (length links) links ≡ [] = drop-of-length-le links all in
-        sym (add-zero _) ∙ rw none at (sums (length links) (omega arith))
+        sym (add-zero _) ∙ rw (none, delay-none tasks) at (sums (length links) (omega arith))

@@ -2,25 +2,24 @@
 -- limit. From the equations of the bounds and the laws of `delay`.
 use Prim.Native.Nat.{ℕ, _+_, _*_, _≤_}
 use native.Mathlib.Omega.{arith}
-use borrow.Author.Tests.{eq-eqb, lt-ltb}
+use borrow.Author.Tests.{eq-eqb}
 use mathlib.Core.Path.{_≡_, refl, _∙_}
-use mathlib.Core.Bool.{true}
 use mathlib.Core.List.{List, [], _∷_, List·Memᴰ·head, List·Memᴰ·tail}
 use lib.ListN.{length}
 use lib.Dec.{eqb}
-use Rattle.lists.specs.Lists.{_∈_, total}
+use Rattle.lists.specs.Lists.{_∈_}
 use Rattle.lists.proofs.Tests.{by-test, never}
 use Rattle.lists.proofs.Keep.{keeps}
 use Rattle.model.specs.Task.{Task}
 use Rattle.model.specs.Bounds.{onCore}
-use Rattle.model.specs.Chains.{Link, sameJob, counts, counting, boundOf, stepDelay, delay}
-use Rattle.model.proofs.Chains.{same-job, delay-last, delay-anew, delay-same}
+use Rattle.model.specs.Chains.{Link, sameJob, boundOf, delay}
+use Rattle.model.proofs.Chains.{same-job, rising-same, delay-none, delay-last, delay-anew, delay-same}
 use Rattle.machine.specs.Passing.{StepOf}
 use Rattle.table.specs.declared.Verdict.the-variants.{Good}
 use Rattle.model.proofs.Most.{bound-most}
 use Rattle.chains.specs.Lists.{ChainStep}
 use Rattle.demands.specs.Rules.{GoodFile}
-use Rattle.demands.specs.Chains.{Names, CoreSays, Rising, Counts, BoundIs, SumIs}
+use Rattle.demands.specs.Chains.{Names, CoreSays, Counts, BoundIs, SumIs}
 use Rattle.demands.proofs.CoreRule.{passes-code}
 use Rattle.demands.proofs.GoodFile.{core-good}
 use Rattle.demands.proofs.Equations.{window-is, bound-is, equations}
@@ -39,11 +38,6 @@ step-of {tasks = tasks} {l = l} file k says =
       inside = k .inside;
     }
 
--- two steps that rise are of one job
-rising-same : (l m : Link) → Rising l m → sameJob l m ≡ true
-unfolding sameJob
-rising-same l m r = rw (eq-eqb (l .task .id) (m .task .id) (r .0), lt-ltb (l .part) (m .part) (omega (arith, r .1)))
-
 module _ (tasks : List Task) where
   -- each of them is a step of the table
   abbrev pub Steps : List Link → Type 0
@@ -52,9 +46,9 @@ module _ (tasks : List Task) where
   -- a step that counts adds its period and its bound
   counts-delay : (l : Link) (links : List Link) → Counts l links
       → delay tasks (l ∷ links) ≡ l .task .period + boundOf tasks l + delay tasks links
-  unfolding delay counting total
-  counts-delay l [] c = omega (arith, delay-last tasks l)
-  counts-delay l (m ∷ links) c = by-test (sameJob l m) (λ e. absurd (c (same-job l m e))) (delay-anew tasks l m links)
+  counts-delay l [] c = omega (arith, delay-last tasks l, delay-none tasks)
+  counts-delay l (m ∷ links) c =
+      by-test (sameJob l m) (λ e. (let rise = same-job l m e in absurd (c (rise .0, omega (arith, rise .1))))) (delay-anew tasks l m links)
 
   module _ {l : Link} (step : StepOf tasks l) where
     -- the bound of a step is that of the equations
@@ -78,10 +72,9 @@ module _ (tasks : List Task) where
 
   -- the delay is the sum
   pub sum-is : (links : List Link) → Steps links → SumIs tasks links (delay tasks links)
-  unfolding delay counting total
-  sum-is [] steps = SumIs.none
+  sum-is [] steps = rw (delay-none tasks) SumIs.none
   sum-is (l ∷ []) steps =
-      rw (counts-delay l [] tt) (SumIs.counts tt (its-bound (steps l (List·Memᴰ·head refl))) SumIs.none)
+      rw (counts-delay l [] tt, delay-none tasks) (SumIs.counts tt (its-bound (steps l (List·Memᴰ·head refl))) SumIs.none)
   sum-is (l ∷ m ∷ links) steps =
       let others = sum-is (m ∷ links) (λ k i. steps k (List·Memᴰ·tail i)) in
       by-test (sameJob l m) (λ e. rw (delay-same tasks l m links e) (SumIs.later (same-job l m e) others))
@@ -91,20 +84,23 @@ module _ (tasks : List Task) where
 
   -- and no other number is
   pub one-sum : {links : List Link} {d : ℕ} → SumIs tasks links d → Steps links → delay tasks links ≡ d
-  unfolding delay counting total
-  one-sum SumIs.none steps = refl
+  one-sum SumIs.none steps = delay-none tasks
   one-sum (SumIs.counts {l} {links} {b} c i others) steps =
       let bound = no-other-bound (steps l (List·Memᴰ·head refl)) b i in
       omega (arith, counts-delay l links c, one-sum others (λ k m. steps k (List·Memᴰ·tail m)))
   one-sum (SumIs.later {l} {m} {links} r others) steps =
       delay-same tasks l m links (rising-same l m r) ∙ one-sum others (λ k i. steps k (List·Memᴰ·tail i))
 
-  -- each step adds at most 16,777,215 and 16,777,215 ticks
+  -- a step adds at most 16,777,215 and 16,777,215 ticks
+  adds-most : (l : Link) → l .task .period ≤ 16777215 → l .task .period + boundOf tasks l ≤ 33554430
+  unfolding boundOf
+  adds-most l short = omega (arith, bound-most (onCore (l .task .core) tasks) (l .task) (l .part))
+
+  -- so does each of a chain
   pub delay-most : (links : List Link) → ((l : Link) → l ∈ links → l .task .period ≤ 16777215) → delay tasks links ≤ length links * 33554430
-  unfolding delay counting total stepDelay boundOf
-  delay-most [] short = omega arith
-  delay-most (l ∷ links) short =
-      let others = delay-most links (λ k i. short k (List·Memᴰ·tail i)) in
-      let period = short l (List·Memᴰ·head refl) in
-      let bound = bound-most (onCore (l .task .core) tasks) (l .task) (l .part) in
-      by-test (counts l links) (λ e. rw e (omega arith)) (λ e. rw e (omega arith))
+  delay-most [] short = omega (arith, delay-none tasks)
+  delay-most (l ∷ []) short = omega (arith, delay-last tasks l, adds-most l (short l (List·Memᴰ·head refl)))
+  delay-most (l ∷ m ∷ links) short =
+      let others = delay-most (m ∷ links) (λ k i. short k (List·Memᴰ·tail i)) in
+      by-test (sameJob l m) (λ e. omega (arith, delay-same tasks l m links e))
+      (λ e. omega (arith, delay-anew tasks l m links e, adds-most l (short l (List·Memᴰ·head refl))))
