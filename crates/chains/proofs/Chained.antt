@@ -36,7 +36,7 @@ use Rattle.chains.proofs.Delays.{cores-same, on-cores, summable, sum-is
 -- ---- the steps
 
 module _ (tasks : List Task) where
-  -- a step stops only at 16
+  -- a step stops only at a fault
   link-honest : (ts : List Task) (s : ChainStep) (n : ℕ) → Honest (linkAt ts s n)
   unfolding linkAt partAt good
   link-honest [] s n = stop-honest Link (UnknownStep n) refl
@@ -46,7 +46,7 @@ module _ (tasks : List Task) where
       (link-honest ts s n)
 
   -- so do all
-  pub links-honest : (steps : List ChainStep) (done : List Link) (n : ℕ) → Honest (linksAt tasks steps done n)
+  links-honest : (steps : List ChainStep) (done : List Link) (n : ℕ) → Honest (linksAt tasks steps done n)
   unfolding linksAt
   links-honest [] done n = go-honest done n
   links-honest (s ∷ steps) done n =

@@ -60,7 +60,7 @@ module _ {tasks : List Task} {links : List Link} {spots : List Spot} (k : Spots 
     its-core : getD spots i noSpot .core ≡ l .task .core
     its-core = ap (λ (s : Spot). s .core) (kept .is)
 
-    -- so is its place in the rooms
+    -- its place in the rooms: its core's part, and there its place among the bounds
     in-core : placeIn (getD spots i noSpot) ≡ l .task .core * 1024 + its-place
     in-core = ap placeIn (kept .is) ∙ add-assoc _ _ _
 
