@@ -1,10 +1,11 @@
--- A value on its way along the sample's chain: task 1, then both parts of task 2 of Set A, all released at tick 0. In the ticks from 0 on
--- run tasks 1 2 2 2 3 1 3 3 3 3 1 2 2 2.
+-- A value on its way along two chains of Set A: task 1, then both parts of task 2; and the second part of task 2 twice. All tasks are
+-- released at tick 0. In the ticks from 0 on run tasks 1 2 2 2 3 1 3 3 3 3 1 2 2 2 0 1 0 0 0 0 1 2 2 2, where 0 is none.
 use mathlib.Core.Path.{_≡_}
+use mathlib.Core.List.{[], _∷_}
 use Rattle.model.specs.Machine.{standAt, ReleasedIn}
 use Rattle.model.specs.BoundSamples.{a1, a2, setA}
 use Rattle.model.specs.MachineSample.{together}
-use Rattle.model.specs.DelaySamples.{chainA}
+use Rattle.model.specs.DelaySamples.{link, chainA}
 use Rattle.machine.specs.Passing.{nobody, HasPassed}
 
 -- jobs are counted from 0
@@ -19,3 +20,9 @@ pub record PassingSample : Type 0 where
   -- so a value that is there at tick 1, after the first releases, passes the chain by tick 14, and not by tick 13
   pub passed : HasPassed (setA 20) (λ core. together) nobody chainA 1 14
   pub not-sooner : HasPassed (setA 20) (λ core. together) nobody chainA 1 13 → ⊥
+  -- the same part twice is for two jobs: job 1, and job 2, which is released in tick 20 and done before tick 24
+  pub third-released : ReleasedIn together a2 2 20
+  pub third-done : standAt (setA 20) together 24 a2 ≡ record { done = 3; at = 0; ran = 0 }
+  -- so a value that is there at tick 1 passes that chain by tick 24, and not by tick 23
+  pub passed-twice : HasPassed (setA 20) (λ core. together) nobody (link a2 1 ∷ link a2 1 ∷ []) 1 24
+  pub not-twice-sooner : HasPassed (setA 20) (λ core. together) nobody (link a2 1 ∷ link a2 1 ∷ []) 1 23 → ⊥
