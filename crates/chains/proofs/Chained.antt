@@ -29,6 +29,7 @@ use Rattle.chains.specs.Chains.{partAt, linkAt, linksAt, noDelay, goodDe
 use Rattle.analysis.specs.Analysis.{needed, saidOf}
 use Rattle.chains.specs.Promises.{Spots, Finds, stepsIn, IsList, OnCores, coresIn, Filled, WorksAll, addedAt, sumBelow, StepsInRange}
 use Rattle.chains.proofs.Steps.{steps-in}
+use Rattle.chains.proofs.CoresSaid.{cores-none, cores-next, cores-stop}
 use Rattle.chains.proofs.Rows.{Sound, tasks-each}
 use Rattle.chains.proofs.Rooms.{needed-few}
 use Rattle.chains.proofs.Delays.{cores-same, on-cores, summable, sum-is-delay}
@@ -63,22 +64,25 @@ module _ (tasks : List Task) where
 
 -- ---- the cores
 
-module _ (tasks : List Task) (d : ℕ) where
-  -- one of them is refused, whatever the delay
+module _ (tasks : List Task) (answer : Delayed) where
+  -- one of them is refused, whatever the answer
   cores-refused : (cores : List ℕ) → (codeOf (coresSaid tasks cores (goodDelay 0) .verdict) ≡ 0 → ⊥)
-      → coresSaid tasks cores (goodDelay 0) ≡ coresSaid tasks cores (goodDelay d)
-  unfolding coresSaid
-  cores-refused [] bad = absurd (bad refl)
+      → coresSaid tasks cores (goodDelay 0) ≡ coresSaid tasks cores answer
+  cores-refused [] bad = absurd (bad (rw (cores-none tasks (goodDelay 0))))
   cores-refused (c ∷ cores) bad =
-      by-test (good (saidOf tasks c)) (λ e. rw e (cores-refused cores (rw e at bad))) (λ e. rw e)
+      by-test (good (saidOf tasks c))
+      (λ e.
+      (let next = cores-next tasks c cores e in
+      next (goodDelay 0) ∙ cores-refused cores (rw (next (goodDelay 0)) at bad) ∙ sym (next answer)))
+      (λ e. cores-stop tasks c cores e (goodDelay 0) ∙ sym (cores-stop tasks c cores e answer))
 
   -- none is
-  cores-pass : (cores : List ℕ) → codeOf (coresSaid tasks cores (goodDelay 0) .verdict) ≡ 0 → goodDelay d ≡ coresSaid tasks cores (goodDelay d)
-  unfolding coresSaid
-  cores-pass [] fine = refl
+  cores-pass : (cores : List ℕ) → codeOf (coresSaid tasks cores (goodDelay 0) .verdict) ≡ 0 → answer ≡ coresSaid tasks cores answer
+  cores-pass [] fine = sym (cores-none tasks answer)
   cores-pass (c ∷ cores) fine =
-      by-test (good (saidOf tasks c)) (λ e. rw e (cores-pass cores (rw e at fine)))
-      (λ e. absurd (never (is-good (saidOf tasks c) (rw e at fine)) e))
+      by-test (good (saidOf tasks c))
+      (λ e. (let next = cores-next tasks c cores e in cores-pass cores (rw (next (goodDelay 0)) at fine) ∙ sym (next answer)))
+      (λ e. absurd (never (is-good (saidOf tasks c) (rw (cores-stop tasks c cores e (goodDelay 0)) at fine)) e))
 
 -- ---- the answer
 
@@ -149,7 +153,7 @@ module _ {t : Table} {l : Listed} {spots : List Spot} (k : Chained t l spots) wh
     -- a core is refused
     pub core-refused : (codeOf (said .verdict) ≡ 0 → ⊥) → said ≡ chainSaid tasks (linksAt tasks (stepsIn l) [] 0)
     core-refused bad =
-        w .said ∙ cores-refused tasks (delay tasks (k .links)) (coresIn (l .count) spots) (rw (w .said) at bad) ∙ sym its-answer
+        w .said ∙ cores-refused tasks (goodDelay (delay tasks (k .links))) (coresIn (l .count) spots) (rw (w .said) at bad) ∙ sym its-answer
 
     module _ (fine : codeOf (said .verdict) ≡ 0) (long : length rooms ≡ 4096) where
       -- else each core has room for its bounds
@@ -171,4 +175,4 @@ module _ {t : Table} {l : Listed} {spots : List Spot} (k : Chained t l spots) wh
           let sum : sumBelow (addedAt spots rooms) (length (k .links)) ≡ delay tasks (k .links)
           = sum-is-delay (k .found) good-tasks long few cores-filled in
           let all : d ≡ delay tasks (k .links) = e ∙ rw (k .count) sum in
-          rw all (cores-pass tasks (delay tasks (k .links)) (coresIn (l .count) spots) (rw (w .said) at fine) ∙ sym its-answer)
+          rw all (cores-pass tasks (goodDelay (delay tasks (k .links))) (coresIn (l .count) spots) (rw (w .said) at fine) ∙ sym its-answer)

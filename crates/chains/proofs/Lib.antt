@@ -7,6 +7,7 @@ pub mod Looking
 pub mod Finding
 pub mod Rooms
 pub mod Cores
+pub mod CoresSaid
 pub mod Working
 pub mod Adding
 pub mod Delays

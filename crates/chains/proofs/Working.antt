@@ -21,6 +21,7 @@ use Rattle.chains.specs.declared.Delayed.{Delayed}
 use Rattle.analysis.specs.Analysis.{saidOf}
 use Rattle.chains.specs.Chains.{noDelay, goodDelay, coresSaid}
 use Rattle.chains.specs.Promises.{Filled, Works, WorksAll}
+use Rattle.chains.proofs.CoresSaid.{cores-none, cores-next, cores-stop}
 
 -- a core that was worked out: it is good, and its bounds are there
 pub record Ready (tasks : List Task) (rooms : List ℕ) (core : ℕ) : Type 0 where
@@ -71,11 +72,11 @@ module _ {tasks : List Task} {cores left rooms : List ℕ} {ready : List Bool} (
 -- the next core is ready
 pub passing : {tasks : List Task} {cores : List ℕ} {core : ℕ} {left rooms : List ℕ} {ready : List Bool}
     → Working tasks cores (core ∷ left) rooms ready → getD ready core false ≡ true → Working tasks cores left rooms ready
-passing {core = core} w e =
+passing {tasks} {core = core} {left} w e =
     record {
       four = w .four;
       long = w .long;
-      same = w .same ∙ (unfold coresSaid in rw (w .worked core e .fine));
+      same = w .same ∙ cores-next tasks core left (w .worked core e .fine) (goodDelay 0);
       worked = w .worked;
       passed = λ c m. ⊎-elim (λ x. ⊎-elim (λ y. inr (rw y e)) inl (List·Memᴰ·cases-cons x)) inr (w .passed c m);
     }
@@ -89,16 +90,15 @@ module _ {tasks : List Task} {cores : List ℕ} {core : ℕ} {left rooms : List 
 
   -- or refused
   pub halts : (codeOf (saidOf tasks core) ≡ 0 → ⊥) → {r : Delayed} → r ≡ noDelay (A.Core core) v → WorksAll tasks cores r rooms′
-  unfolding coresSaid
   halts h e =
-      rw (e, now .said) (record { said = sym (w .same ∙ rw (is-fault (saidOf tasks core) h)); filled = λ z. absurd (h z) })
+      let said = w .same ∙ cores-stop tasks core left (is-fault (saidOf tasks core) h) (goodDelay 0) in
+      rw (e, now .said) (record { said = sym said; filled = λ z. absurd (h z) })
 
 -- none is left: all are ready
 pub all-worked : {tasks : List Task} {cores rooms : List ℕ} {ready : List Bool} {r : Delayed} → Working tasks cores [] rooms ready
     → r ≡ goodDelay 0 → WorksAll tasks cores r rooms
-unfolding coresSaid
-all-worked w e =
+all-worked {tasks} w e =
     rw e (record {
-      said = sym (w .same);
+      said = sym (w .same ∙ cores-none tasks (goodDelay 0));
       filled = λ z c m. ⊎-elim (λ x. absurd (List·Memᴰ·not-nil x)) (λ r. w .worked c r .filled) (w .passed c m);
     })

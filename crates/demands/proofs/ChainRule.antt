@@ -26,6 +26,7 @@ use Rattle.chains.specs.declared.About.the-variants as A
 use Rattle.chains.specs.declared.Delayed.{Delayed}
 use Rattle.chains.specs.Lists.{ChainStep}
 use Rattle.chains.specs.Chains.{partAt, linkAt, linksAt, noDelay, coresSaid, stepCore}
+use Rattle.chains.proofs.CoresSaid.{cores-none, cores-next, cores-stop}
 use Rattle.demands.specs.Rules.{GoodFile}
 use Rattle.demands.specs.Chains.{Names, AllNamed, FirstUnknown, CoreSays, FirstRefused, AllCoresPass}
 use Rattle.demands.proofs.CoreRule.{rule-said, said-rule, good-or-not}
@@ -193,24 +194,30 @@ module _ {s : List ℕ} {tasks : List Task} (file : GoodFile s tasks) where
       ⊎-elim (λ e. inl (subst (CoreSays tasks core) e says)) (λ f. inr (saidOf tasks core, says, λ e. never (rw e) f))
       (good-or-not _ _ _ says)
 
+  -- a core that passes leaves it to the others
+  pass-next : (answer : Delayed) (l : Link) (links : List Link) → CoreSays tasks (stepCore l) C.Good
+      → coresSaid tasks (map stepCore (l ∷ links)) answer ≡ coresSaid tasks (map stepCore links) answer
+  unfolding good
+  pass-next answer l links says = cores-next tasks (stepCore l) (map stepCore links) (rw (one-saying (stepCore l) says)) answer
+
   -- where all cores pass, the answer is given
   pub all-pass : (answer : Delayed) (links : List Link) → AllCoresPass tasks links → coresSaid tasks (map stepCore links) answer ≡ answer
-  unfolding coresSaid good
-  all-pass answer [] pass = refl
+  all-pass answer [] pass = cores-none tasks answer
   all-pass answer (l ∷ links) pass =
-      rw (one-saying (stepCore l) (pass l (List·Memᴰ·head refl))) (all-pass answer links (λ m i. pass m (List·Memᴰ·tail i)))
+      pass-next answer l links (pass l (List·Memᴰ·head refl)) ∙ all-pass answer links (λ m i. pass m (List·Memᴰ·tail i))
 
   -- where the core of one step is refused and those before it pass, its verdict is given
   refused-at : (answer : Delayed) (links : List Link) (n : ℕ) (l : Link) (v : Verdict) → Place links n l
       → saidOf tasks (stepCore l) ≡ v → good v ≡ false
       → ((i : ℕ) (earlier : Link) → i < n → Place links i earlier → CoreSays tasks (stepCore earlier) C.Good)
       → coresSaid tasks (map stepCore links) answer ≡ noDelay (A.Core (stepCore l)) v
-  unfolding coresSaid good Place
+  unfolding Place
   refused-at answer [] n l v here said fault before = absurd here
-  refused-at answer (m ∷ links) zero l v here said fault before = rw (here, said, fault)
+  refused-at answer (m ∷ links) zero l v here said fault before =
+      rw here (cores-stop tasks (stepCore l) (map stepCore links) (rw said fault) answer ∙ ap (noDelay (A.Core (stepCore l))) said)
   refused-at answer (m ∷ links) (suc n) l v here said fault before =
-      rw (one-saying (stepCore m) (before 0 m (omega arith) refl))
-      (refused-at answer links n l v here said fault (λ i k h p. before (suc i) k (omega arith) p))
+      pass-next answer m links (before 0 m (omega arith) refl)
+      ∙ refused-at answer links n l v here said fault (λ i k h p. before (suc i) k (omega arith) p)
 
   -- the first core, in step order, whose code is not 0 is given
   pub first-refused : (answer : Delayed) {links : List Link} {core : ℕ} {v : Verdict} → FirstRefused tasks links core v
