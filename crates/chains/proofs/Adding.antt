@@ -1,25 +1,32 @@
 -- The sum of what the first steps of a chain add, step by step. Assumes nothing.
-use Prim.Native.Nat.{ℕ, _+_, _*_, _≤_, _<_}
+use Prim.Native.Nat.{ℕ, suc, _+_, _*_, _≤_, _<_}
 use native.Mathlib.Numerals.{add-one}
 use native.Mathlib.Omega.{arith}
-use mathlib.Core.Path.{_≡_, refl, ap, _∙_}
+use mathlib.Core.Path.{_≡_, refl, sym, ap, _∙_}
 use mathlib.Core.Bool.{_&&_}
 use mathlib.Core.List.{List}
 use lib.Dec.{eqb, ltb}
 use lib.ListN.{getD}
+use Rattle.lists.specs.Lists.{total, listed, upTo}
 use Rattle.lists.proofs.Tests.{by-test}
+use Rattle.lists.proofs.Each.{listed-snoc}
+use Rattle.lists.proofs.Totals.{total-snoc}
 use Rattle.chains.specs.declared.Spot.{Spot}
-use Rattle.chains.specs.Promises.{noSpot, placeIn, adding, addedAt, sumBelow, StepsInRange}
+use Rattle.chains.specs.Promises.{noSpot, placeIn, adding, addedAt, StepsInRange}
 
 -- the sum over the first i steps, and how much that is at most
 pub record Adding (n : ℕ) (spots : List Spot) (rooms : List ℕ) (sum i : ℕ) : Type 0 where
   pub upto : i ≤ n
   pub most : sum ≤ i * 33554430
-  pub is : sum ≡ sumBelow (addedAt spots rooms) i
+  pub is : sum ≡ total (addedAt spots rooms) (upTo i)
+
+-- one term more
+pub sum-more : (f : ℕ → ℕ) (n : ℕ) → total f (upTo (suc n)) ≡ total f (upTo n) + f n
+sum-more f n = ap (total f) (listed-snoc (λ i. i) n) ∙ total-snoc f (upTo n) n
 
 -- at first 0
 pub none-added : (n : ℕ) (spots : List Spot) (rooms : List ℕ) → Adding n spots rooms 0 0
-unfolding sumBelow
+unfolding total listed
 none-added n spots rooms = record { upto = omega arith; most = omega arith; is = refl }
 
 -- a step adds at most its period and its bound
@@ -39,8 +46,8 @@ module _ {n : ℕ} {spots : List Spot} {rooms : List ℕ} {sum i : ℕ} (s : Ste
 
     -- one step more
     pub one-more : Adding n spots rooms (sum + more) (i + 1)
-    one-more = record { upto = omega arith; most = small; is = unfold sumBelow in rw (is, k .is, add-one) }
+    one-more = record { upto = omega arith; most = small; is = rw (is, k .is, add-one) (sym (sum-more (addedAt spots rooms) i)) }
 
   -- all steps
-  pub all-added : n ≤ i → sum ≡ sumBelow (addedAt spots rooms) n
-  all-added h = k .is ∙ ap (sumBelow (addedAt spots rooms)) (omega (arith, k .upto))
+  pub all-added : n ≤ i → sum ≡ total (addedAt spots rooms) (upTo n)
+  all-added h = k .is ∙ ap (λ m. total (addedAt spots rooms) (upTo m)) (omega (arith, k .upto))

@@ -5,7 +5,7 @@ use mathlib.Core.Path.{_≡_, refl, sym, ap, _∙_}
 use mathlib.Core.List.{List, [], _∷_, _++_, map}
 use lib.ListN.{length, length-append}
 use lib.Dec.{eqb, ltb}
-use Rattle.lists.specs.Lists.{_∈_}
+use Rattle.lists.specs.Lists.{_∈_, total, upTo}
 use Rattle.lists.proofs.Tests.{by-test, never}
 use Rattle.model.specs.Task.{Task, parts}
 use Rattle.model.specs.Rows.{GoodTask}
@@ -27,7 +27,7 @@ use Rattle.chains.specs.declared.Spot.{Spot}
 use Rattle.chains.specs.Lists.{ChainStep}
 use Rattle.chains.specs.Chains.{partAt, linkAt, linksAt, noDelay, goodDelay, coresSaid, stepCore, chainSaid}
 use Rattle.analysis.specs.Analysis.{needed, saidOf}
-use Rattle.chains.specs.Promises.{Spots, Finds, stepsIn, IsList, OnCores, coresIn, Filled, WorksAll, addedAt, sumBelow, StepsInRange}
+use Rattle.chains.specs.Promises.{Spots, Finds, stepsIn, IsList, OnCores, coresIn, Filled, WorksAll, addedAt, StepsInRange}
 use Rattle.chains.proofs.Steps.{steps-in}
 use Rattle.chains.proofs.CoresSaid.{cores-none, cores-next, cores-stop}
 use Rattle.chains.proofs.Rows.{Sound, tasks-each}
@@ -169,10 +169,10 @@ module _ {t : Table} {l : Listed} {spots : List Spot} (k : Chained t l spots) wh
       can-sum = rw (k .count) (summable (k .found) good-tasks long few cores-filled)
 
       -- and that is the answer
-      pub chain-passes : (d : ℕ) → d ≡ sumBelow (addedAt spots rooms) (l .count)
+      pub chain-passes : (d : ℕ) → d ≡ total (addedAt spots rooms) (upTo (l .count))
           → goodDelay d ≡ chainSaid tasks (linksAt tasks (stepsIn l) [] 0)
       chain-passes d e =
-          let sum : sumBelow (addedAt spots rooms) (length (k .links)) ≡ delay tasks (k .links)
+          let sum : total (addedAt spots rooms) (upTo (length (k .links))) ≡ delay tasks (k .links)
           = sum-is-delay (k .found) good-tasks long few cores-filled in
           let all : d ≡ delay tasks (k .links) = e ∙ rw (k .count) sum in
           rw all (cores-pass tasks (goodDelay (delay tasks (k .links))) (coresIn (l .count) spots) (rw (w .said) at fine) ∙ sym its-answer)

@@ -9,7 +9,7 @@ use mathlib.Core.List.{List, [], _∷_, map, Memᴰ·map, head-eq-of-cons-eq}
 use lib.ListN.{length, getD, take, drop, length-map, length-drop, drop-of-length-le}
 use lib.Seq.{ext-getD}
 use lib.Dec.{eqb, ltb}
-use Rattle.lists.specs.Lists.{_∈_, Place, pick, keep, each, total}
+use Rattle.lists.specs.Lists.{_∈_, Place, pick, keep, each, total, listed, upTo}
 use Rattle.lists.proofs.Tests.{by-test}
 use Rattle.lists.proofs.Drops.{place-drop}
 use Rattle.lists.proofs.Listed.{listed-length}
@@ -26,8 +26,9 @@ use Rattle.analysis.specs.Analysis.{needed, coreBounds}
 use Rattle.analysis.proofs.BoundsPut.{bounds-length}
 use Rattle.chains.specs.declared.Spot.{Spot}
 use Rattle.chains.specs.Chains.{stepCore}
-use Rattle.chains.specs.Promises.{startOf, IsSpot, noSpot, Spots, OnCores, coresIn, Filled, placeIn, addedAt, sumBelow, StepsInRange}
+use Rattle.chains.specs.Promises.{startOf, IsSpot, noSpot, Spots, OnCores, coresIn, Filled, placeIn, addedAt, StepsInRange}
 use Rattle.chains.proofs.Cores.{cores-length, core-at}
+use Rattle.chains.proofs.Adding.{sum-more}
 
 -- a row's bound stands where its part says, behind those of the core's rows before it
 bound-at : (tasks : List Task) (at : ℕ) (t : Task) → Place tasks at t → (p : ℕ) → p < parts t
@@ -160,15 +161,14 @@ module _ {tasks : List Task} {links : List Link} {spots : List Spot} (k : Spots 
             (λ t. rw (mine, ← same, t, delay-anew tasks l m ls t))
 
     -- so they are the delay
-    sums : (i : ℕ) → i ≤ length links → sumBelow (addedAt spots rooms) i + delay tasks (drop i links) ≡ delay tasks links
-    unfolding sumBelow
-    sums zero h = zero-add _
+    sums : (i : ℕ) → i ≤ length links → total (addedAt spots rooms) (upTo i) + delay tasks (drop i links) ≡ delay tasks links
+    sums zero h = unfold total listed in zero-add _
     sums (suc i) h =
         let w = place-some links i (omega arith) in
-        omega (arith, sums i (omega arith), shares i (w .0) (w .1))
+        omega (arith, sums i (omega arith), shares i (w .0) (w .1), sum-more (addedAt spots rooms) i)
 
     -- all of it
-    pub sum-is-delay : sumBelow (addedAt spots rooms) (length links) ≡ delay tasks links
+    pub sum-is-delay : total (addedAt spots rooms) (upTo (length links)) ≡ delay tasks links
     sum-is-delay =
         let all : length links ≤ length links = omega arith in
         let none : drop (length links) links ≡ [] = drop-of-length-le links all in

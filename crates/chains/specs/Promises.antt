@@ -1,5 +1,5 @@
 -- Inner: what the functions on the way to a chain's delay promise each other.
-use Prim.Native.Nat.{ℕ, zero, suc, _+_, _*_, _≤_, _<_}
+use Prim.Native.Nat.{ℕ, suc, _+_, _*_, _≤_, _<_}
 use mathlib.Core.Path.{_≡_}
 use mathlib.Core.Bool.{_&&_}
 use mathlib.Core.List.{List, [], map}
@@ -116,11 +116,6 @@ adding s next bound = pick (eqb (s .task) (next .task) && ltb (s .part) (next .p
 abbrev pub addedAt : List Spot → List ℕ → ℕ → ℕ
 addedAt spots rooms i =
     adding (getD spots i noSpot) (getD spots (suc i) noSpot) (getD rooms (placeIn (getD spots i noSpot)) 0)
-
--- f 0 + .. + f (n - 1)
-unfoldable pub sumBelow : (ℕ → ℕ) → ℕ → ℕ
-sumBelow f zero = 0
-sumBelow f (suc n) = sumBelow f n + f n
 
 -- the places of the first n steps are there, and no period or bound is above the limit
 pub record StepsInRange (n : ℕ) (spots : List Spot) (rooms : List ℕ) : Type 0 where

@@ -3,6 +3,7 @@ ghost use Prim.Native.Nat.{_≤_};
 ghost use mathlib.Core.Path.{_≡_};
 ghost use mathlib.Core.List.{[]};
 ghost use lib.ListN.{length};
+ghost use Rattle.lists.specs.Lists.{total, upTo};
 ghost use Rattle.table.specs.declared.Verdict.the-variants.{UnknownStep};
 ghost use Rattle.table.specs.Verdicts.{codeOf};
 ghost use Rattle.table.specs.Memory.{tasksOf};
@@ -11,7 +12,7 @@ ghost use Rattle.fields.specs.Stepping.{stop};
 ghost use Rattle.chains.specs.Lists.{stepsAt, listNumbers};
 ghost use Rattle.chains.specs.Chains.{noDelay, goodDelay, linksAt, chainSaid, delayAnswer};
 ghost use Rattle.chains.specs.Promises.{asListed, FirstAt, Indexed, noSpot, Finds, stepsIn, IsList, OnCores, coresIn};
-ghost use Rattle.chains.specs.Promises.{Works, WorksAll, adding, addedAt, sumBelow, StepsInRange};
+ghost use Rattle.chains.specs.Promises.{Works, WorksAll, adding, addedAt, StepsInRange};
 use fields::Field;
 use fields::Next;
 use fields::Way;
@@ -279,7 +280,7 @@ fn added(step: Spot, next: Spot, bound: u32) -> u32
 // What the first `n` steps add.
 fn sum_of(n: usize, spots: [Spot; 33], rooms: &[u32]) -> u32
     requires { ⌜ StepsInRange n spots (now rooms) ⌝ }
-    ensures { λ r. ⌜ r ≡ sumBelow (addedAt spots (now (rooms .entry))) n ⌝ }
+    ensures { λ r. ⌜ r ≡ total (addedAt spots (now (rooms .entry))) (upTo n) ⌝ }
 {
     let mut sum: u32 = 0;
     let mut i = 0;
