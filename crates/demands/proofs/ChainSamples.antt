@@ -1,8 +1,11 @@
--- The worked chains hold: what stands on bytes computes; Set A's verdicts and bounds are cited.
+-- The worked chains hold: what stands on bytes computes; Set A's verdicts and bounds are cited, and so is a core without a window.
 use mathlib.Core.Path.{refl}
+use Rattle.model.specs.Chains.{sameJob, counts, counting, boundOf, stepDelay, delay}
 use Rattle.model.proofs.BoundSamples as Model
 use Rattle.model.proofs.DelaySamples.{delay-samples}
+use Rattle.sheet.proofs.Opened.{bounds-found, core-judged}
 use Rattle.demands.specs.ChainSamples.{ChainSamples}
+use Rattle.demands.proofs.SampleB.{judged2}
 use Rattle.demands.proofs.Opened.{chain-answered}
 
 -- all of them
@@ -28,4 +31,6 @@ chain-samples =
       noPart = refl;
       late = rw (m .lateA);
       unknownFirst = refl;
+      coreOrder = rw judged2;
+      twoCores = unfold bounds-found core-judged sameJob counts counting boundOf stepDelay delay in refl;
     }

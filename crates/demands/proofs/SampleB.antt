@@ -29,7 +29,7 @@ refused = refl
 -- ---- core 2
 
 -- its rows
-abbrev rows2 : List Task
+abbrev pub rows2 : List Task
 rows2 = task41 ∷ task43 ∷ []
 
 -- in a window of n periods of 12, n jobs of 15 ask for more
@@ -43,7 +43,7 @@ unfolding bounds-found
 window43 = refl
 
 -- so the lower one is named
-judged2 : coreVerdict rows2 ≡ noWindow task41
+pub judged2 : coreVerdict rows2 ≡ noWindow task41
 unfolding core-judged
 judged2 = rw (none41, window43)
 

@@ -1,4 +1,5 @@
--- Document 02, §4: worked chains, from the bytes of the table and of the list. The table is Set A, with task 3's deadline at 20 or at 9.
+-- Document 02, §4: worked chains, from the bytes of the table and of the list. The table is Set A, with task 3's deadline at 20 or at 9,
+-- or the second sample.
 use Prim.Native.Nat.{ℕ}
 use mathlib.Core.Path.{_≡_}
 use mathlib.Core.List.{List, [], _∷_}
@@ -7,6 +8,7 @@ use Rattle.chains.specs.declared.About.the-variants as A
 use Rattle.chains.specs.declared.Delayed.{Delayed}
 use Rattle.chains.specs.Chains.{noDelay, goodDelay, delayAnswer}
 use Rattle.demands.specs.Samples.{bytesA}
+use Rattle.demands.specs.SampleB.{bytesB}
 
 -- the answer for Set A and this list
 abbrev pub alongA : List ℕ → Delayed
@@ -40,3 +42,7 @@ pub record ChainSamples : Type 0 where
   -- the core of task 1 has code 12; an unknown step behind it comes first
   pub late : alongLate (1 ∷ 1 ∷ 1 ∷ []) ≡ noDelay (A.Core 0) (C.Missed 3)
   pub unknownFirst : alongLate (2 ∷ 1 ∷ 1 ∷ 2 ∷ 3 ∷ []) ≡ noDelay A.List (C.UnknownStep 1)
+  -- cores in step order: core 2 (11) is met before core 1 (12)
+  pub coreOrder : delayAnswer bytesB (2 ∷ 41 ∷ 1 ∷ 31 ∷ 1 ∷ []) ≡ noDelay (A.Core 2) (C.NoWindow 41)
+  -- over two cores: task 300 part 1, task 22 parts 1 and 2, task 300 part 2: 1000 + 130 + 34 + 30 + 1000 + 259
+  pub twoCores : delayAnswer bytesB (4 ∷ 172 ∷ 2 ∷ 1 ∷ 22 ∷ 1 ∷ 22 ∷ 2 ∷ 172 ∷ 2 ∷ 2 ∷ []) ≡ goodDelay 2453
