@@ -2,7 +2,7 @@
 use mathlib.Core.Path.{refl}
 use Rattle.model.specs.Chains.{sameJob, counts, counting, boundOf, stepDelay, delay}
 use Rattle.model.proofs.BoundSamples as Model
-use Rattle.model.proofs.DelaySamples.{delay-samples}
+use Rattle.model.proofs.ChainDelays.{chain-delays}
 use Rattle.sheet.proofs.Opened.{bounds-found, core-judged}
 use Rattle.demands.specs.ChainSamples.{ChainSamples}
 use Rattle.demands.proofs.SampleB.{judged2}
@@ -13,7 +13,7 @@ pub chain-samples : ChainSamples
 unfolding chain-answered
 chain-samples =
     let m = Model.samples in
-    let d = delay-samples in
+    let d = chain-delays in
     record {
       chainA = rw (m .goodA .0, d .in-order);
       twice = rw (m .goodA .0, d .twice);

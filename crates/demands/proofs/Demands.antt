@@ -2,7 +2,7 @@
 use Rattle.model.proofs.MachineSample.{machine-sample}
 use Rattle.model.proofs.BegunSample.{begun-sample}
 use Rattle.model.proofs.Periodic.{periodic-allowed}
-use Rattle.model.proofs.DelaySamples.{delay-samples}
+use Rattle.model.proofs.ChainDelays.{chain-delays}
 use Rattle.machine.proofs.NoRunIsLater.{no-run-is-later}
 use Rattle.machine.proofs.PassingSample.{passing-sample}
 use Rattle.files.proofs.Short.{good-file-is-short}
@@ -70,7 +70,7 @@ worked =
       chains = chain-samples;
       machine = machine-sample;
       begun = begun-sample;
-      delays = delay-samples;
+      delays = chain-delays;
       passing = passing-sample;
       periodic = periodic-allowed;
     }

@@ -4,7 +4,7 @@
 -- offered to the crates above them alone; what the programs read and write, of which no contract can speak.
 use Rattle.model.specs.MachineSample.{PeriodicAllowed, MachineSample}
 use Rattle.model.specs.BegunSample.{BegunSample}
-use Rattle.model.specs.DelaySamples.{DelaySamples}
+use Rattle.model.specs.ChainDelays.{ChainDelays}
 use Rattle.machine.specs.NoRunIsLater.{NoRunIsLater}
 use Rattle.machine.specs.PassingSample.{PassingSample}
 use Rattle.files.specs.RoundTrips.{GoodFileIsShort, UnusedHasNoSay}
@@ -67,7 +67,7 @@ pub record WorkedSamples : Type 0 where
   pub machine : MachineSample
   pub begun : BegunSample
   -- delays on Set A, and a value on its way along a chain
-  pub delays : DelaySamples
+  pub delays : ChainDelays
   pub passing : PassingSample
   -- runs whose jobs come one period apart are allowed, so that demand 3 is about some run
   pub periodic : PeriodicAllowed

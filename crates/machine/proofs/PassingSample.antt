@@ -14,7 +14,7 @@ use Rattle.model.specs.Machine.{Stand, standAt, released, ReleasedIn, Ended}
 use Rattle.model.specs.BoundSamples.{a1, a2, setA}
 use Rattle.model.specs.MachineSample.{together}
 use Rattle.model.specs.Chains.{Link, sameJob}
-use Rattle.model.specs.DelaySamples.{link, chainA}
+use Rattle.model.specs.ChainDelays.{link, chainA}
 use Rattle.model.proofs.Released.{released-grows}
 use Rattle.model.proofs.Responses.{maxBelow-at}
 use Rattle.model.proofs.Computed.{machine-ticks}

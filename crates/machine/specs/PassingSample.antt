@@ -5,7 +5,7 @@ use mathlib.Core.List.{[], _∷_}
 use Rattle.model.specs.Machine.{standAt, ReleasedIn}
 use Rattle.model.specs.BoundSamples.{a1, a2, setA}
 use Rattle.model.specs.MachineSample.{together}
-use Rattle.model.specs.DelaySamples.{link, chainA}
+use Rattle.model.specs.ChainDelays.{link, chainA}
 use Rattle.machine.specs.Passing.{nobody, HasPassed}
 
 -- jobs are counted from 0

@@ -20,5 +20,5 @@ pub mod Cores
 pub mod Highest
 pub mod Ranges
 pub mod Most
-pub mod DelaySamples
+pub mod ChainDelays
 pub mod Chains

@@ -8,4 +8,4 @@ pub mod Machine
 pub mod MachineSample
 pub mod BegunSample
 pub mod Chains
-pub mod DelaySamples
+pub mod ChainDelays

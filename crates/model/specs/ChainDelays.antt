@@ -14,7 +14,7 @@ link t r = record { task = t; part = r }
 abbrev pub chainA : List Link
 chainA = link a1 0 ∷ link a2 0 ∷ link a2 1 ∷ []
 
-pub record DelaySamples : Type 0 where
+pub record ChainDelays : Type 0 where
   -- one job of task 2 passes both its steps, so only the later counts: 5 + 1 + 10 + 7
   pub later-counts : counting chainA ≡ link a1 0 ∷ link a2 1 ∷ []
   pub in-order : delay (setA 20) chainA ≡ 23

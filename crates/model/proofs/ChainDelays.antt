@@ -4,12 +4,12 @@ use native.Mathlib.Omega.{arith}
 use Rattle.lists.specs.Lists.{keep, total}
 use Rattle.model.specs.Bounds.{onCore}
 use Rattle.model.specs.Chains.{sameJob, counts, counting, boundOf, stepDelay, delay}
-use Rattle.model.specs.DelaySamples.{DelaySamples}
+use Rattle.model.specs.ChainDelays.{ChainDelays}
 use Rattle.model.proofs.BoundSamples.{samples}
 
-pub delay-samples : DelaySamples
+pub chain-delays : ChainDelays
 unfolding keep total onCore sameJob counts counting boundOf stepDelay delay
-delay-samples =
+chain-delays =
     let r1 = samples .boundsA1 in
     let r2 = samples .boundsA2 in
     record {
