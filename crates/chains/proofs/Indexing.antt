@@ -69,9 +69,10 @@ module _ (tasks : List Task) (i : ℕ) (u : Task) (p : Place tasks i u) where
       rw (add-one, place-take tasks i u p, keep-snoc (λ t. eqb (t .core) c) (take i tasks) u, ne-eqb (u .core) c (λ q. e (sym q)))
 
   -- the sum of its core is stored
-  sum-more : (used : List ℕ) → u .core < length used → parts u ≤ 64 → ((c : ℕ) → c < 4 → Sum tasks i c (getD used c 0)) → (c : ℕ) → c < 4
+  core-sums-more : (used : List ℕ) → u .core < length used → parts u ≤ 64 → ((c : ℕ) → c < 4 → Sum tasks i c (getD used c 0))
+      → (c : ℕ) → c < 4
       → Sum tasks (i + 1) c (getD (set used (u .core) (getD used (u .core) 0 + parts u)) c 0)
-  sum-more used inside few sums c h =
+  core-sums-more used inside few sums c h =
       ⊎-elim
       (λ own.
       (let s : Sum tasks i (u .core) (getD used (u .core) 0) = sums (u .core) (omega arith) in
@@ -101,7 +102,7 @@ module _ (tasks : List Task) (i : ℕ) (u : Task) (p : Place tasks i u) where
       record {
         id = told-more (λ j v. v .id) ids (u .id) (k .id) (omega (arith, k .ids-long)) refl;
         start = told-more (startOf tasks) starts _ (k .start) (omega (arith, k .starts-long)) (k .sum (u .core) core .is);
-        sum = sum-more used (omega (arith, k .used-long)) (good .count .most) (k .sum);
+        sum = core-sums-more used (omega (arith, k .used-long)) (good .count .most) (k .sum);
         ids-long = rw length-set (k .ids-long);
         starts-long = rw length-set (k .starts-long);
         used-long = rw length-set (k .used-long);

@@ -22,7 +22,8 @@ use Rattle.chains.specs.Promises.{FirstAt, Indexed, IsSpot}
 use Rattle.chains.proofs.Rows.{Sound, tableRow, TaskAt, tasks-count, count-in, task-at}
 
 -- the tasks that have another id are passed over
-passed : (s : ChainStep) (n : ℕ) (tasks : List Task) (at : ℕ) → ((j : ℕ) (v : Task) → j < at → Place tasks j v → v .id ≡ s .task → ⊥)
+passed : (s : ChainStep) (n : ℕ) (tasks : List Task) (at : ℕ)
+    → ((j : ℕ) (v : Task) → j < at → Place tasks j v → v .id ≡ s .task → ⊥)
     → linkAt tasks s n ≡ linkAt (drop at tasks) s n
 unfolding linkAt Place
 passed s n tasks zero none = refl

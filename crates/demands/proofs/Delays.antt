@@ -97,7 +97,8 @@ module _ (tasks : List Task) where
   adds-most l short = omega (arith, bound-most (onCore (l .task .core) tasks) (l .task) (l .part))
 
   -- so does each of a chain
-  pub delay-most : (links : List Link) → ((l : Link) → l ∈ links → l .task .period ≤ 16777215) → delay tasks links ≤ length links * 33554430
+  pub delay-most : (links : List Link) → ((l : Link) → l ∈ links → l .task .period ≤ 16777215)
+      → delay tasks links ≤ length links * 33554430
   delay-most [] short = omega (arith, delay-none tasks)
   delay-most (l ∷ []) short = omega (arith, delay-last tasks l, adds-most l (short l (List·Memᴰ·head refl)))
   delay-most (l ∷ m ∷ links) short =

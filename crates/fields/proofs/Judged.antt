@@ -78,7 +78,8 @@ module _ {most : ℕ} {s : List ℕ} (file : Long most s) where
       omega (arith, r .bytes (file .bytes) .past, longer v (w .high) (r .fine .most))
 
   -- where several end
-  pub run-end : (ws : List Wanted) (at : ℕ) (all : List ℕ) (n : ℕ) → fieldsAt (fieldAt s) ws [] at ≡ go all n → n ≤ at + total bytesOf ws
+  pub run-end : (ws : List Wanted) (at : ℕ) (all : List ℕ) (n : ℕ) → fieldsAt (fieldAt s) ws [] at ≡ go all n
+      → n ≤ at + total bytesOf ws
   run-end ws at all n e =
       let r = taken-all (in-file s) ws at all n e in
       omega (arith, r .bytes (file .bytes) .past, short ws all (r .fine))
