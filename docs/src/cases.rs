@@ -5,7 +5,6 @@ use crate::draws::Draws;
 use crate::files::Named;
 use crate::good::{good, largest, FULL};
 use crate::numbers::{joined, numbers, FIELDS};
-use crate::runs::Fixed;
 use crate::table::{file, row, shortest, Row, LIMIT};
 
 /// Bytes out of hex, two digits each with spaces between them.
@@ -15,8 +14,8 @@ pub fn hex(text: &str) -> Vec<u8> {
         .collect()
 }
 
-/// The fixed list: the samples of the description, then the cases its words decide.
-pub fn fixed() -> Fixed<Named> {
+/// The fixed list: the samples of the description, then the cases its words decide; and how many of its draws gave up.
+pub fn fixed() -> (Vec<Named>, u64) {
     let (mut one, mut two) = (Draws::seeded(1), Draws::seeded(2));
     let mut list = samples(&mut one);
     list.extend(number_cases());
@@ -27,10 +26,7 @@ pub fn fixed() -> Fixed<Named> {
     list.extend(verdict_cases());
     list.extend(delay_cases());
     list.extend(limit_cases());
-    Fixed {
-        list,
-        given_up: one.given_up + two.given_up,
-    }
+    (list, one.given_up + two.given_up)
 }
 
 fn samples(draws: &mut Draws) -> Vec<Named> {

@@ -4,22 +4,19 @@ use crate::cases::{self, hex};
 use crate::chains::{list, Case, Step, MOST_STEPS};
 use crate::files::Named;
 use crate::numbers::rows_met;
-use crate::runs::Fixed;
 use crate::table::{file, row, Row, LIMIT};
 
-/// The fixed list: chains on good tables, refused lists, refused cores, and every table of the reports.
-pub fn fixed() -> Fixed<Case> {
-    let tables = cases::fixed();
-    let mut list = set_a_cases();
-    list.extend(list_cases());
-    list.extend(core_cases());
-    list.extend(order_cases());
-    list.push(largest_delay());
-    list.extend(tables.list.into_iter().map(with_its_parts));
-    Fixed {
-        list,
-        given_up: tables.given_up,
-    }
+/// The fixed list: chains on good tables, refused lists, refused cores, and every table of the reports; and how many of its
+/// draws gave up.
+pub fn fixed() -> (Vec<Case>, u64) {
+    let (tables, given_up) = cases::fixed();
+    let mut cases = set_a_cases();
+    cases.extend(list_cases());
+    cases.extend(core_cases());
+    cases.extend(order_cases());
+    cases.push(largest_delay());
+    cases.extend(tables.into_iter().map(with_its_parts));
+    (cases, given_up)
 }
 
 fn case(table: &Named, name: &'static str, list: Vec<u8>) -> Case {

@@ -2,11 +2,9 @@
 
 use crate::chains::{list, Case, Step, MOST_STEPS};
 use crate::compare::Gathered;
-use crate::counts::{add, Counts};
-use crate::reached::Reached;
-use crate::runs::{Covers, Numbered};
 use crate::table::Row;
-use std::collections::BTreeSet;
+use crate::Run;
+use std::collections::{BTreeMap, BTreeSet};
 
 /// What the drawn cases of a run have to reach at least once.
 const WANTED: [&str; 44] = [
@@ -56,22 +54,38 @@ const WANTED: [&str; 44] = [
     "good: no two steps in a row have one task",
 ];
 
+/// How often each thing was met.
+type Counts<K> = BTreeMap<K, u64>;
+
 #[derive(Default)]
 pub struct Coverage {
-    reached: Reached,
-    /// Drawn cases by what their tables and their lists are there for.
+    pub difference: Option<Run>,
+    /// Drawn cases by what they reached, and by what their tables and their lists are there for.
+    met: Counts<String>,
     tables: Counts<&'static str>,
     lists: Counts<&'static str>,
     /// The largest delay of a drawn case.
     largest: u64,
+    pub unanswered: u64,
+    given_up: u64,
 }
 
 impl Gathered for Coverage {
     fn join(&mut self, other: Self) {
-        self.reached.join(other.reached);
+        add(&mut self.met, other.met);
         add(&mut self.tables, other.tables);
         add(&mut self.lists, other.lists);
         self.largest = self.largest.max(other.largest);
+        self.unanswered += other.unanswered;
+        self.given_up += other.given_up;
+        let found = [self.difference.take(), other.difference];
+        self.difference = found.into_iter().flatten().min_by_key(|run| run.index);
+    }
+}
+
+fn add<K: Ord>(sum: &mut Counts<K>, more: Counts<K>) {
+    for (key, count) in more {
+        *sum.entry(key).or_default() += count;
     }
 }
 
@@ -107,14 +121,14 @@ pub fn answer(line: &str) -> Option<Answer> {
 
 /// What is left of a refused drawn case without its fault, to see whether more is wrong with it: the list on a table without
 /// rows, the list without its tail, or the steps before the unknown one.
-pub fn without_fault(chain: &Numbered<Case>, second: &str) -> Option<[Vec<u8>; 2]> {
-    let (table, given) = (&chain.case.table.1, &chain.case.list.1);
-    match answer(second)? {
-        _ if chain.is_fixed => None,
+pub fn without_fault(run: &Run) -> Option<[Vec<u8>; 2]> {
+    let (table, given) = (&run.case.table.1, &run.case.list.1);
+    match answer(&run.second)? {
+        _ if run.is_fixed => None,
         Answer::File(_) => Some([vec![0], given.clone()]),
         Answer::List { code: 8, number } => Some([table.clone(), given[..number].to_vec()]),
         Answer::List { code: 16, number } if number > 0 => {
-            Some([table.clone(), list(&chain.case.steps()[..number])])
+            Some([table.clone(), list(&run.case.steps()[..number])])
         }
         _ => None,
     }
@@ -123,32 +137,34 @@ pub fn without_fault(chain: &Numbered<Case>, second: &str) -> Option<[Vec<u8>; 2
 // ---- What a case reached ----
 
 impl Coverage {
-    /// Adds a case by what the second program says of it, and of it without its fault; says whether that is an answer. Of a
-    /// fixed one nothing more is asked: they reach all that is wanted, and would hide draws that reach nothing.
-    pub fn add(&mut self, chain: &Numbered<Case>, second: &str, without_fault: &str) -> bool {
-        let Some(found) = answer(second) else {
-            return false;
+    /// Adds a case, and what the second program says of it without its fault. Of a fixed one only whether it was answered: they
+    /// reach all that is wanted, and would hide draws that reach nothing.
+    pub fn add(&mut self, run: &Run, without_fault: &str) {
+        let Some(found) = answer(&run.second) else {
+            self.unanswered += 1;
+            return;
         };
-        if !chain.is_fixed {
-            self.add_drawn(&chain.case, found, answer(without_fault));
+        if run.is_fixed {
+            return;
         }
-        true
+        *self.tables.entry(run.case.table.0).or_default() += 1;
+        *self.lists.entry(run.case.list.0).or_default() += 1;
+        let more = answer(without_fault);
+        match found {
+            Answer::Delay(delay) => self.add_good(&run.case, delay),
+            Answer::File(code) => self.add_file(code, more),
+            Answer::List { code: 16, number } => self.add_unknown(&run.case, number, more),
+            Answer::List { code, number } => self.add_list(&run.case, code, number, more),
+            Answer::Core { core, code } => self.add_core(&run.case, core, code),
+        }
     }
 
-    fn add_drawn(&mut self, case: &Case, found: Answer, more: Option<Answer>) {
-        *self.tables.entry(case.table.0).or_default() += 1;
-        *self.lists.entry(case.list.0).or_default() += 1;
-        match found {
-            Answer::Delay(delay) => self.add_good(case, delay),
-            Answer::File(code) => self.add_file(code, more),
-            Answer::List { code: 16, number } => self.add_unknown(case, number, more),
-            Answer::List { code, number } => self.add_list(case, code, number, more),
-            Answer::Core { core, code } => self.add_core(case, core, code),
-        }
+    pub fn add_given_up(&mut self, count: u64) {
+        self.given_up += count;
     }
 
     fn reach(&mut self, name: &str) {
-        self.reached.reach(name);
+        *self.met.entry(String::from(name)).or_default() += 1;
     }
 
     fn add_file(&mut self, code: u64, more: Option<Answer>) {
@@ -252,15 +268,26 @@ impl Coverage {
             ),
             ("good: a task comes again behind others", comes_again(steps)),
         ];
-        self.reached.reach_each(&found);
+        for (name, is_so) in found {
+            if is_so {
+                self.reach(name);
+            }
+        }
     }
-}
 
-// ---- At the end ----
+    // ---- At the end ----
 
-impl Covers for Coverage {
-    fn say(&self) -> bool {
-        let is_whole = self.reached.say(&WANTED);
+    /// What no drawn case reached.
+    pub fn never_reached(&self) -> Vec<&'static str> {
+        let is_missing = |name: &&str| !self.met.contains_key(*name);
+        WANTED.into_iter().filter(is_missing).collect()
+    }
+
+    pub fn print(&self) {
+        println!("drawn cases by what they reached:");
+        for name in WANTED {
+            println!("  {name}: {}", self.met.get(name).unwrap_or(&0));
+        }
         for (what, counts) in [("tables", &self.tables), ("lists", &self.lists)] {
             println!("drawn {what} by kind:");
             for (name, count) in counts {
@@ -268,7 +295,8 @@ impl Covers for Coverage {
             }
         }
         println!("largest delay of a drawn case: {} ticks", self.largest);
-        is_whole
+        println!("cases without an answer: {}", self.unanswered);
+        println!("draws that gave up, and took one row: {}", self.given_up);
     }
 }
 

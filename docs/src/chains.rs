@@ -1,30 +1,25 @@
 //! The chains of a run: a table file, and a list of steps on it.
 
-use crate::damage::{change, cut, make_longer, outside, trail};
+use crate::damage::{change, cut, damaged, make_longer, outside, trail};
 use crate::draws::Draws;
+use crate::effort::quick;
 use crate::files::{drawn, Named};
-use crate::good::{good, LONG, MIDDLE, SMALL};
+use crate::good::{good, shape, Shape, LONG, MIDDLE, SMALL};
 use crate::numbers::rows_met;
-use crate::runs::Kind;
-use crate::spoiled::{spoiled, with_a_fault, LIGHT};
 use crate::table::{file, shortest, Row, LIMIT};
 
 pub const MOST_STEPS: u64 = 32;
 const MOST_ID: u64 = 65_535;
 const MOST_PARTS: u64 = 64;
 
+/// Tables whose cores are mostly good, and quickly worked out.
+const LIGHT: Shape = shape((2, 10), (1, 6), (20, 3_000), (15, 70));
+
 /// A table file and a list, each with what it is there for.
 #[derive(Clone)]
 pub struct Case {
     pub table: Named,
     pub list: Named,
-}
-
-impl Kind for Case {
-    /// That of its table: lists do not give up.
-    fn kind(&self) -> &'static str {
-        self.table.kind()
-    }
 }
 
 /// A task's id and a part, from 1.
@@ -81,6 +76,30 @@ fn wide(draws: &mut Draws) -> Vec<Row> {
     let mut table = good(draws, &LIGHT);
     table.iter_mut().for_each(|row| row.deadline = LIMIT);
     table
+}
+
+/// A light table with a row that asks for too much, or has too short a deadline.
+fn spoiled(draws: &mut Draws) -> Vec<Row> {
+    let table = good(draws, &LIGHT);
+    let mut changed = table.clone();
+    let row = &mut changed[draws.below(table.len())];
+    if draws.one_in(2) {
+        row.deadline = 1;
+    } else {
+        row.period = draws.between(1, row.times.iter().sum());
+    }
+    if quick(&changed) {
+        changed
+    } else {
+        table
+    }
+}
+
+/// A damaged table: any code of a file about as often as another.
+fn with_a_fault(draws: &mut Draws) -> Named {
+    // Cut off, too long a number, out of range, clashing rows (for three codes), too many times, and bytes behind.
+    let which = draws.pick(&[0, 2, 4, 7, 7, 7, 12, 13]);
+    damaged(draws, which)
 }
 
 // ---- Lists ----

@@ -16,12 +16,12 @@ pub const NO_END: &str = "(it did not end in time with status 0)";
 
 // ---- One program on one input ----
 
-/// What a program prints on standard output, and on standard error.
+/// What a program prints on standard output, and on standard error if that is a pipe.
 pub type Printed = [Vec<u8>; 2];
 
 /// What a program prints for the bytes on its standard input; none if it does not end in time, or with another status than 0.
-pub fn printed(program: &str, bytes: &[u8]) -> Result<Option<Printed>, String> {
-    let child = program::command(program).stderr(Stdio::piped()).spawn();
+pub fn printed(program: &str, error: Stdio, bytes: &[u8]) -> Result<Option<Printed>, String> {
+    let child = program::command(program).stderr(error).spawn();
     let mut child = child.map_err(|error| format!("{program}: {error}"))?;
     let end = Instant::now() + PATIENCE;
     let (stdin, stdout, stderr) = (child.stdin.take(), child.stdout.take(), child.stderr.take());
@@ -54,12 +54,6 @@ fn ends_well(child: &mut Child, end: Instant) -> bool {
             _ => return false,
         }
     }
-}
-
-/// Bytes in hex, two digits each.
-pub fn in_hex(bytes: &[u8]) -> String {
-    let hex: Vec<String> = bytes.iter().map(|byte| format!("{byte:02X}")).collect();
-    hex.join(" ")
 }
 
 /// What comes through a pipe, as far as it is kept.

@@ -60,13 +60,6 @@ impl Draws {
         from[self.below(from.len())]
     }
 
-    /// Puts things in any order.
-    pub fn shuffle<T>(&mut self, things: &mut [T]) {
-        for place in (1..things.len()).rev() {
-            things.swap(place, self.below(place + 1));
-        }
-    }
-
     /// `count` different numbers from `least` to `most`, often with the ends among them.
     pub fn different(&mut self, count: usize, least: u64, most: u64) -> Vec<u64> {
         let mut numbers: Vec<u64> = Vec::new();

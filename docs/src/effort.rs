@@ -5,14 +5,8 @@ use crate::table::{Row, LIMIT};
 /// Tables whose plain searches would take more steps than this are drawn anew.
 pub const MOST_STEPS: u64 = 10_000_000;
 
-/// The search for a row's window: what it finds, if any, and its rounds.
-pub struct Search {
-    pub window: Option<u64>,
-    pub rounds: u64,
-}
-
-/// The search of a row, which ends at `most` rounds.
-pub fn search(table: &[Row], row: &Row, most: u64) -> Search {
+/// The window of a row, if any, and the rounds of its search, which end at `most`.
+pub fn window(table: &[Row], row: &Row, most: u64) -> (Option<u64>, u64) {
     let mut loads = Vec::new();
     let mut longest_lower: u64 = 0;
     for other in table.iter().filter(|other| other.core == row.core) {
@@ -30,20 +24,17 @@ pub fn search(table: &[Row], row: &Row, most: u64) -> Search {
         blocking + shares.sum::<u64>()
     };
     let mut length: u64 = row.times.iter().sum();
-    for rounds in 1..=most {
+    for round in 1..most {
         if length > LIMIT {
-            let (window, rounds) = (None, rounds - 1);
-            return Search { window, rounds };
+            return (None, round);
         }
         let next = demand(length);
         if next == length {
-            let window = Some(length);
-            return Search { window, rounds };
+            return (Some(length), round);
         }
         length = next;
     }
-    let (window, rounds) = (None, most);
-    Search { window, rounds }
+    (None, most)
 }
 
 /// Whether the plain searches take about `MOST_STEPS` steps at most.
@@ -53,7 +44,7 @@ pub fn quick(table: &[Row]) -> bool {
         let on_core = table.iter().filter(|other| other.core == row.core);
         let on_core = on_core.count() as u64;
         let most = MOST_STEPS / on_core;
-        let Search { window, rounds } = search(table, row, most);
+        let (window, rounds) = window(table, row, most);
         let jobs = window.map_or(1, |length| length.div_ceil(row.period));
         let searches = jobs * row.times.len() as u64;
         steps = steps.saturating_add(searches.saturating_mul(rounds * on_core));

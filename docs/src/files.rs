@@ -5,17 +5,10 @@ use crate::draws::Draws;
 use crate::good::{
     extreme, good, largest, many_jobs, FULL, HEAVY, LARGE, LONG, MIDDLE, SMALL, TINY,
 };
-use crate::runs::Kind;
 use crate::table::file;
 
 /// What a case is there for, and its bytes.
 pub type Named = (&'static str, Vec<u8>);
-
-impl Kind for Named {
-    fn kind(&self) -> &'static str {
-        self.0
-    }
-}
 
 /// A file of one of the kinds, the damaged ones among them.
 pub fn drawn(draws: &mut Draws) -> Named {

@@ -33,21 +33,21 @@ pub const HEAVY: Shape = shape((2, 4), (1, 2), (40, 4_000), (97, 99));
 pub const LARGE: Shape = shape((30, 64), (1, 40), (2_000, 90_000), (5, 95));
 pub const FULL: Shape = shape((64, 64), (16, 16), (3_000, 90_000), (5, 90));
 
-/// A table that is made so, has no clash and is quickly worked out; one row where none is found.
-pub fn quick_table(draws: &mut Draws, make: impl Fn(&mut Draws) -> Vec<Row>) -> Vec<Row> {
-    for _ in 0..40 {
-        let table = make(draws);
-        if !clashing(&table) && quick(&table) {
-            return table;
-        }
-    }
+/// The table in place of one that was not found.
+fn one_row(draws: &mut Draws) -> Vec<Row> {
     draws.given_up += 1;
     vec![row([1, 0, 0, 5, 50, 50], &[1])]
 }
 
 /// A good table of the shape whose bounds are quickly worked out.
 pub fn good(draws: &mut Draws, shape: &Shape) -> Vec<Row> {
-    quick_table(draws, |draws| draw(draws, shape))
+    for _ in 0..40 {
+        let table = draw(draws, shape);
+        if quick(&table) {
+            return table;
+        }
+    }
+    one_row(draws)
 }
 
 fn draw(draws: &mut Draws, shape: &Shape) -> Vec<Row> {
@@ -163,7 +163,7 @@ fn set_deadlines(draws: &mut Draws, table: &mut [Row]) {
 
 /// One row with a long time among rows with short periods: thousands of jobs in a window.
 pub fn many_jobs(draws: &mut Draws) -> Vec<Row> {
-    quick_table(draws, |draws| {
+    for _ in 0..40 {
         let mut table = lay_out(draws, (2, 3));
         for (place, row) in table.iter_mut().enumerate() {
             row.core = 0;
@@ -178,13 +178,16 @@ pub fn many_jobs(draws: &mut Draws) -> Vec<Row> {
             spread(draws, &mut row.times, row.period * load / 100);
         }
         set_deadlines(draws, &mut table);
-        table
-    })
+        if !clashing(&table) && quick(&table) {
+            return table;
+        }
+    }
+    one_row(draws)
 }
 
 /// A good table with many numbers at the ends of their ranges.
 pub fn extreme(draws: &mut Draws) -> Vec<Row> {
-    quick_table(draws, |draws| {
+    for _ in 0..40 {
         let mut table = lay_out(draws, (1, 6));
         for row in &mut table {
             let parts = if draws.one_in(3) { 64 } else { 1 };
@@ -194,8 +197,11 @@ pub fn extreme(draws: &mut Draws) -> Vec<Row> {
             row.period = draws.pick(&[1, 2, 127, 128, LIMIT / 2, LIMIT - 1, LIMIT, LIMIT]);
             row.deadline = draws.pick(&[1, LIMIT - 1, LIMIT, row.period]);
         }
-        table
-    })
+        if quick(&table) {
+            return table;
+        }
+    }
+    one_row(draws)
 }
 
 /// 64 rows and 1,024 times, every number as long as its range lets it: 5,121 bytes.
@@ -227,6 +233,8 @@ pub fn largest(draws: &mut Draws) -> Vec<Row> {
         row.times = (0..parts).map(|_| draws.any_size(1 << 21, LIMIT)).collect();
         table.push(row);
     }
-    draws.shuffle(&mut table);
+    for place in (1..64).rev() {
+        table.swap(place, draws.below(place + 1));
+    }
     table
 }

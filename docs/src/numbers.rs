@@ -2,7 +2,7 @@
 
 use crate::table::{shortest, values, Row, LIMIT, ROWS, TIME};
 
-/// The report, rounds and chain programs look at this many bytes of a table file.
+/// The report programs look at this many bytes.
 pub const LOOKED_AT: usize = 5_124;
 
 /// The kinds of numbers in a file: name and range.

@@ -5,12 +5,13 @@
 //! SECOND is followed by import or export
 //!
 //! Texts go through both imports, table files through both exports; what is good goes back as well, and must come back.
-//! How a run goes is in runs.rs; a text is shown as printf takes it, and a file in hex. It leaves with 1 too where no case
-//! reached one of the codes.
+//! The first cases are a fixed list of telling ones, always run whole; the others, up to COUNT in all, are drawn from the
+//! seed. Case number N is the same in every run with the same seed. At the first difference it prints what went in, a text
+//! as printf takes it and a file in hex, and both answers, and leaves with 1. It leaves with 1 too where neither program
+//! answered some case, or where no case reached one of the codes.
 
 mod cases;
 mod compare;
-mod counts;
 mod damage;
 mod draws;
 mod effort;
@@ -18,7 +19,6 @@ mod files;
 mod good;
 mod numbers;
 mod program;
-mod runs;
 mod splitmix;
 mod table;
 mod text;
@@ -28,11 +28,10 @@ mod text_damage;
 mod texts;
 mod ways;
 
-use compare::{in_hex, printed, Printed, NO_END};
-use draws::Draws;
+use compare::{all_cases, printed, Printed, NO_END};
+use draws::{seed, Draws};
 use files::drawn;
-use runs::{asked, wrong_use, Looked, Numbered};
-use std::process::ExitCode;
+use std::process::{ExitCode, Stdio};
 use text_cases::{fixed, Case};
 use text_cover::Coverage;
 use texts::drawn_text;
@@ -43,11 +42,11 @@ const MOST_SHOWN: usize = 20_000;
 
 // ---- Running and comparing ----
 
-/// The programs compared: the first import and export, and the second one, which does both.
-struct Programs {
-    import: String,
-    export: String,
-    second: String,
+/// A case with a difference.
+pub struct Difference {
+    pub index: usize,
+    case: Case,
+    found: Found,
 }
 
 /// Two answers that should be one, each with who gives it, and what they answer.
@@ -63,23 +62,28 @@ enum Stop {
     Broken(String),
 }
 
-/// A text, or a file now and then.
-fn drawn_case(draws: &mut Draws) -> Case {
-    if draws.one_in(5) {
+/// Case number `index` of a run, and how many of its draws gave up.
+fn case(plan: &Plan, index: usize) -> (Case, u64) {
+    if let Some(case) = plan.fixed.get(index) {
+        return (case.clone(), 0);
+    }
+    let draws = &mut Draws::of_case(plan.seed, index);
+    let case = if draws.one_in(5) {
         (Way::Export, drawn(draws))
     } else {
         (Way::Import, drawn_text(draws))
-    }
+    };
+    (case, draws.given_up)
 }
 
 /// What both programs for this way print; none if neither ends well in time.
-fn both(programs: &Programs, way: Way, given: &[u8]) -> Result<Option<Printed>, Stop> {
+fn both(plan: &Plan, way: Way, given: &[u8]) -> Result<Option<Printed>, Stop> {
     let first = match way {
-        Way::Import => &programs.import,
-        Way::Export => &programs.export,
+        Way::Import => &plan.import,
+        Way::Export => &plan.export,
     };
-    let second = format!("{}\n{}", programs.second, way.word());
-    let printed = |program: &str| printed(program, given).map_err(Stop::Broken);
+    let second = format!("{}\n{}", plan.second, way.word());
+    let printed = |program: &str| printed(program, Stdio::piped(), given).map_err(Stop::Broken);
     let (first, second) = (printed(first)?, printed(&second)?);
     if first == second {
         return Ok(second);
@@ -110,14 +114,14 @@ fn comes_back(way: Way, given: &[u8]) -> Vec<u8> {
 }
 
 /// The verdict on a case, after a good one went back as well; none where no program answered.
-fn verdict(programs: &Programs, way: Way, given: &[u8]) -> Result<Option<(u64, usize)>, Stop> {
-    let Some(printed) = both(programs, way, given)? else {
+fn verdict(plan: &Plan, way: Way, given: &[u8]) -> Result<Option<(u64, usize)>, Stop> {
+    let Some(printed) = both(plan, way, given)? else {
         return Ok(None);
     };
     let verdict = way.verdict(&printed);
     if verdict == Some((0, 0)) {
         let [there, _] = printed;
-        let back = both(programs, way.back(), &there)?;
+        let back = both(plan, way.back(), &there)?;
         let wanted = Some([comes_back(way, given), Vec::new()]);
         if back != wanted {
             let answers = [("answer", back), ("right answer", wanted)];
@@ -127,23 +131,24 @@ fn verdict(programs: &Programs, way: Way, given: &[u8]) -> Result<Option<(u64, u
     Ok(verdict)
 }
 
-/// Runs a case and says what the programs print.
-fn look(
-    programs: &Programs,
-    numbered: &Numbered<Case>,
-    coverage: &mut Coverage,
-) -> Result<Looked<Found>, String> {
-    let (way, (_, given)) = &numbered.case;
-    match verdict(programs, *way, given) {
+/// Runs case number `index` and says whether there is no difference.
+fn look(plan: &Plan, index: usize, coverage: &mut Coverage) -> Result<bool, String> {
+    let (case, given_up) = case(plan, index);
+    let (way, (name, given)) = &case;
+    coverage.add_given_up(given_up);
+    match verdict(plan, *way, given) {
         Ok(verdict) => {
-            if let Some(verdict) = verdict {
-                coverage.add(numbered.kind(), *way, given, verdict);
-            }
-            let is_answered = verdict.is_some();
-            Ok(Looked::Same { is_answered })
+            let fixed = index < plan.fixed.len();
+            let kind = if fixed { "fixed list" } else { name };
+            coverage.add(kind, *way, given, verdict);
+            Ok(true)
         }
         Err(Stop::Broken(error)) => Err(error),
-        Err(Stop::Differs(found)) => Ok(Looked::Differs(*found)),
+        Err(Stop::Differs(found)) => {
+            let found = *found;
+            coverage.difference = Some(Difference { index, case, found });
+            Ok(false)
+        }
     }
 }
 
@@ -166,13 +171,16 @@ fn shown(bytes: &[u8], what: &str) -> String {
     let shown = if what == "text" {
         escaped(front)
     } else {
-        in_hex(front)
+        let hex: Vec<String> = front.iter().map(|byte| format!("{byte:02X}")).collect();
+        hex.join(" ")
     };
     format!("{what} of {} bytes: {shown}", bytes.len())
 }
 
-fn show((way, (name, given)): &Case, found: &Found) {
-    println!("{name}, a {}", shown(given, way.given()));
+fn show(difference: &Difference) {
+    let Difference { index, case, found } = difference;
+    let (way, (name, given)) = case;
+    println!("case {index}: {name}, a {}", shown(given, way.given()));
     if found.way != *way {
         println!(
             "on the way back, a {}",
@@ -196,15 +204,62 @@ fn show((way, (name, given)): &Case, found: &Found) {
 
 // ---- The run ----
 
+struct Plan {
+    import: String,
+    export: String,
+    second: String,
+    count: usize,
+    seed: u64,
+    fixed: Vec<Case>,
+    /// How many of the fixed list's draws gave up.
+    given_up: u64,
+}
+
+fn plan() -> Option<Plan> {
+    let words: Vec<String> = std::env::args().skip(1).collect();
+    let [import, export, second, count, rest @ ..] = &words[..] else {
+        return None;
+    };
+    let (fixed, given_up) = fixed();
+    Some(Plan {
+        import: import.clone(),
+        export: export.clone(),
+        second: second.clone(),
+        count: fixed.len().max(count.parse().ok()?),
+        seed: seed(rest)?,
+        fixed,
+        given_up,
+    })
+}
+
+fn run(plan: &Plan) -> Result<Coverage, String> {
+    let look = |index, coverage: &mut Coverage| look(plan, index, coverage);
+    let mut coverage = all_cases(plan.count, look)?;
+    coverage.add_given_up(plan.given_up);
+    Ok(coverage)
+}
+
 fn main() -> ExitCode {
-    let Some(([import, export, second], cases)) = asked(fixed(), drawn_case) else {
-        return wrong_use("random_text IMPORT EXPORT SECOND COUNT [SEED]");
+    let Some(plan) = plan() else {
+        eprintln!("usage: random_text IMPORT EXPORT SECOND COUNT [SEED]");
+        return ExitCode::from(2);
     };
-    let programs = Programs {
-        import,
-        export,
-        second,
+    let coverage = match run(&plan) {
+        Err(error) => {
+            eprintln!("{error}");
+            return ExitCode::from(2);
+        }
+        Ok(coverage) => coverage,
     };
-    let look = |case: &Numbered<Case>, coverage: &mut Coverage| look(&programs, case, coverage);
-    cases.run("texts and files", look, show)
+    if let Some(difference) = &coverage.difference {
+        show(difference);
+        return ExitCode::from(1);
+    }
+    let (count, seed, fixed) = (plan.count, plan.seed, plan.fixed.len());
+    println!("{count} texts and files, {fixed} of them fixed, seed {seed}: no difference");
+    coverage.print();
+    let missing = coverage.never_reached();
+    println!("codes never reached: {missing:?}");
+    // Two programs that both say nothing agree on nothing.
+    ExitCode::from(u8::from(coverage.unanswered > 0 || !missing.is_empty()))
 }

@@ -1,4 +1,4 @@
-//! The bounds of one core, its verdict, and the rounds of its searches for windows: what the second programs share.
+//! The bounds of one core and its verdict: what the second programs share.
 //! Written from the documents alone.
 //! Every search is the plain one: from its named start, again and again, until nothing changes.
 
@@ -23,9 +23,9 @@ struct Load {
     t: u64,
 }
 
-/// What the window and the bounds of one row depend on.
-pub struct Task<'a> {
-    pub row: &'a Row,
+/// What the bounds of one row depend on.
+struct Task<'a> {
+    row: &'a Row,
     own: Load,
     higher: Vec<Load>,
     preemptive: Vec<Load>,
@@ -68,29 +68,19 @@ fn blocking(on_core: &[&Row], row: &Row) -> u64 {
     longest.map_or(0, |ticks| ticks - 1)
 }
 
-/// The right side of the window's equation (equations 4 and 9).
-fn right_side(task: &Task, length: u64) -> u64 {
-    let own = up(length, task.own.t) * task.own.c;
-    let higher: u64 = task.higher.iter().map(|h| up(length, h.t) * h.c).sum();
-    task.blocking + own + higher
-}
-
-/// The search for a window, a result a round (document 02, §5): the right side at the row's C, then at each result, up to the
-/// first repeat or the first result above the limit. A C above the limit has none.
-pub fn results<'a>(task: &'a Task) -> impl Iterator<Item = u64> + 'a {
-    let within_limit = |length: u64| (length <= LIMIT).then_some(length);
-    let mut length = within_limit(task.own.c);
-    std::iter::from_fn(move || {
-        let last = length?;
-        let result = right_side(task, last);
-        length = within_limit(result).filter(|result| *result != last);
-        Some(result)
-    })
-}
-
-/// Window L: what the search ends with, none above the limit.
-pub fn window(task: &Task) -> Option<u64> {
-    results(task).last().filter(|length| *length <= LIMIT)
+/// Window L (equations 4 and 9), searched from the row's C; none above the limit.
+fn window(task: &Task) -> Option<u64> {
+    let mut length = task.own.c;
+    while length <= LIMIT {
+        let own = up(length, task.own.t) * task.own.c;
+        let higher: u64 = task.higher.iter().map(|h| up(length, h.t) * h.c).sum();
+        let next = task.blocking + own + higher;
+        if next == length {
+            return Some(length);
+        }
+        length = next;
+    }
+    None
 }
 
 /// The least x from `start` up with x = g(x), for a g that never falls and has g(start) >= start.
@@ -173,15 +163,10 @@ fn is_late(row: &Row, bounds: &[u64]) -> bool {
     bounds.last().is_some_and(|last| *last > row.deadline)
 }
 
-/// The tasks of a core, in row order.
-pub fn tasks(rows: &[Row], core: u64) -> Vec<Task<'_>> {
-    let on_core: Vec<&Row> = rows.iter().filter(|row| row.core == core).collect();
-    on_core.iter().map(|row| Task::new(&on_core, row)).collect()
-}
-
 /// The answer for a core: code 11 where a window is missing, else 12 where a deadline is missed.
 pub fn answer(rows: &[Row], core: u64) -> Answer<'_> {
-    let tasks = tasks(rows, core);
+    let on_core: Vec<&Row> = rows.iter().filter(|row| row.core == core).collect();
+    let tasks: Vec<Task> = on_core.iter().map(|row| Task::new(&on_core, row)).collect();
     let windows: Vec<Option<u64>> = tasks.iter().map(window).collect();
     let endless = tasks.iter().zip(&windows).filter(|(_, w)| w.is_none());
     let mut verdict = highest(11, endless.map(|(task, _)| task.row));

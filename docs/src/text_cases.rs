@@ -5,7 +5,6 @@ use crate::draws::Draws;
 use crate::files::Named;
 use crate::good::{good, FULL};
 use crate::numbers::{rows_met, FIELDS};
-use crate::runs::{Fixed, Kind};
 use crate::table::{row, Row, TIME};
 use crate::text::Text;
 use crate::texts::{longest, TEXT_LOOKED_AT};
@@ -14,15 +13,10 @@ use crate::ways::Way;
 /// A way, and what goes in.
 pub type Case = (Way, Named);
 
-impl Kind for Case {
-    fn kind(&self) -> &'static str {
-        self.1.kind()
-    }
-}
-
-/// The fixed list: the worked texts, then those that the description's words decide, then the files of the reports.
-pub fn fixed() -> Fixed<Case> {
-    let files = cases::fixed();
+/// The fixed list: the worked texts, then those that the description's words decide, then the files of the reports; and
+/// how many of its draws gave up.
+pub fn fixed() -> (Vec<Case>, u64) {
+    let (files, given_up) = cases::fixed();
     let mut draws = Draws::seeded(3);
     let mut texts = worked();
     texts.extend(cut_off());
@@ -31,14 +25,10 @@ pub fn fixed() -> Fixed<Case> {
     texts.extend(total_cases());
     texts.extend(border_cases());
     texts.extend(large_cases(&mut draws));
-    texts.extend(texts_of(&files.list));
+    texts.extend(texts_of(&files));
     let texts = texts.into_iter().map(|named| (Way::Import, named));
-    let given_up = files.given_up + draws.given_up;
-    let files = files.list.into_iter().map(|named| (Way::Export, named));
-    Fixed {
-        list: texts.chain(files).collect(),
-        given_up,
-    }
+    let files = files.into_iter().map(|named| (Way::Export, named));
+    (texts.chain(files).collect(), given_up + draws.given_up)
 }
 
 /// The texts of docs/tests/texts, each without its answer.

@@ -1,16 +1,19 @@
 //! What a run of texts and files covered.
 
 use crate::compare::Gathered;
-use crate::counts::{add, Counts};
 use crate::numbers::FIELDS;
-use crate::runs::Covers;
 use crate::table::TIME;
 use crate::texts::TEXT_LOOKED_AT;
 use crate::ways::Way;
+use crate::Difference;
 use std::collections::BTreeMap;
+
+/// How often each thing was met.
+type Counts<K> = BTreeMap<K, u64>;
 
 #[derive(Default)]
 pub struct Coverage {
+    pub difference: Option<Difference>,
     codes: Counts<(Way, u64)>,
     kinds: Counts<(Way, &'static str, u64)>,
     /// Texts with code 3 by field, and with code 17 by the byte that cannot go on and the one before it.
@@ -21,6 +24,8 @@ pub struct Coverage {
     largest: usize,
     rows: usize,
     times: usize,
+    pub unanswered: u64,
+    given_up: u64,
 }
 
 impl Gathered for Coverage {
@@ -33,15 +38,16 @@ impl Gathered for Coverage {
         self.largest = self.largest.max(other.largest);
         self.rows = self.rows.max(other.rows);
         self.times = self.times.max(other.times);
+        self.unanswered += other.unanswered;
+        self.given_up += other.given_up;
+        let found = [self.difference.take(), other.difference];
+        self.difference = found.into_iter().flatten().min_by_key(|found| found.index);
     }
 }
 
-impl Covers for Coverage {
-    fn say(&self) -> bool {
-        self.print();
-        let missing = self.never_reached();
-        println!("codes never reached: {missing:?}");
-        missing.is_empty()
+fn add<K: Ord>(sum: &mut Counts<K>, more: Counts<K>) {
+    for (key, count) in more {
+        *sum.entry(key).or_default() += count;
     }
 }
 
@@ -56,8 +62,12 @@ impl Coverage {
         kind: &'static str,
         way: Way,
         given: &[u8],
-        (code, number): (u64, usize),
+        verdict: Option<(u64, usize)>,
     ) {
+        let Some((code, number)) = verdict else {
+            self.unanswered += 1;
+            return;
+        };
         let given = &given[..given.len().min(TEXT_LOOKED_AT)];
         add_one(&mut self.codes, (way, code));
         add_one(&mut self.kinds, (way, kind, code));
@@ -71,6 +81,10 @@ impl Coverage {
             }
             _ => {}
         }
+    }
+
+    pub fn add_given_up(&mut self, count: u64) {
+        self.given_up += count;
     }
 
     fn add_good(&mut self, text: &[u8]) {
@@ -94,7 +108,7 @@ impl Coverage {
     }
 
     /// The codes that no case reached.
-    fn never_reached(&self) -> Vec<String> {
+    pub fn never_reached(&self) -> Vec<String> {
         let mut missing = Vec::new();
         for way in [Way::Import, Way::Export] {
             let codes = way.codes().iter();
@@ -104,7 +118,7 @@ impl Coverage {
         missing
     }
 
-    fn print(&self) {
+    pub fn print(&self) {
         for way in [Way::Import, Way::Export] {
             println!("{}s by code:", way.given());
             for code in way.codes() {
@@ -121,6 +135,8 @@ impl Coverage {
         print_pairs(&self.looks);
         println!("largest good text: {} bytes", self.largest);
         println!("most rows: {}; most times: {}", self.rows, self.times);
+        println!("cases without an answer: {}", self.unanswered);
+        println!("draws that gave up, and took one row: {}", self.given_up);
     }
 
     fn print_kinds(&self, way: Way) {

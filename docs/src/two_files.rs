@@ -2,6 +2,7 @@
 
 use crate::compare::{printed, Printed};
 use std::path::PathBuf;
+use std::process::Stdio;
 
 /// The folder; it is taken away with all that is in it.
 pub struct Folder(PathBuf);
@@ -35,7 +36,7 @@ impl Folder {
             written.map_err(|error| format!("{}: {error}", path.display()))?;
             words += &format!("\n{}", path.display());
         }
-        let printed = printed(&words, &[]);
+        let printed = printed(&words, Stdio::piped(), &[]);
         for path in paths {
             let _ = std::fs::remove_file(path);
         }

@@ -5,18 +5,20 @@ use native.Mathlib.Omega.{arith}
 use borrow.Author.Tests.{le-leb, lt-leb}
 use mathlib.Core.Path.{◌≡◌, refl, sym, ap, subst, ◌∙◌}
 use mathlib.Core.List.{List, [], ◌∷◌, ◌++◌, append-nil}
-use lib.ListN.{length, get_or, take, drop, length-append}
+use lib.ListN.{length, get_or, take, drop, length-append, length-map, length-take}
 use lib.Dec.{ltb}
-use lib.Seq.{append_snoc}
+use lib.Seq.{append_snoc, get_or-take}
 use Rattle.lists.specs.Lists.{pick, Place, each, over, total}
-use Rattle.lists.proofs.Places.{place_below}
+use Rattle.lists.proofs.Places.{place_in_lem, place_below, place_get}
 use Rattle.lists.proofs.EachPlaces.{place_right}
 use Rattle.lists.proofs.Each.{each_append, each_snoc, each-length}
 use Rattle.lists.proofs.Overs.{over_none, over-length, over-part, over_last}
 use Rattle.lists.proofs.Totals.{total_same}
 use Rattle.lists.proofs.Listed.{listed-length, listed_at}
 use Rattle.model.specs.Task.{Task, parts}
-use Rattle.model.specs.Bounds.{bound, row_bounds, meets_deadline, highest, id_of}
+use Rattle.model.specs.declared.Found.TheVariants.{At}
+use Rattle.model.specs.Least.{value}
+use Rattle.model.specs.Bounds.{window, bound, row_bounds, meets_deadline, highest, id_of}
 use Rattle.table.specs.declared.Row.{Row}
 use Rattle.table.specs.declared.Table.{Table}
 use Rattle.table.specs.Memory.{zero_row, tasks_of}
@@ -26,7 +28,7 @@ use Rattle.cores.specs.Cores.{tasks_in}
 use Rattle.table.proofs.Stored.{times-count}
 use Rattle.analysis.specs.declared.Top.{Top}
 use Rattle.analysis.specs.Analysis.{core_bounds}
-use Rattle.analysis.specs.Promises.{Bounding, ToBound, bounds_on, late, top_row, top_of, Bounded}
+use Rattle.analysis.specs.Promises.{Bounding, ToBound, bounds_on, window_length, late, top_row, top_of, Bounded}
 use Rattle.analysis.proofs.Tops.{top-id, top-next, top_stays}
 use Rattle.analysis.proofs.Cored.{at_row, bounds_on_lem}
 
@@ -118,13 +120,27 @@ module _ {c : Core} {ws room₀ : List ℕ} (b : ToBound c ws (length room₀)) 
       unfolding total
       bounds_fit = omega (arith, left_fit, bounds-length (tasks_in c) s.left, ap (total parts) coming.first, parts_are)
 
-      -- there is a place for its window
+      -- there is a window for it
       pub window_there : i < length ws
-      window_there = omega (arith, place_below (tasks_in c) i coming.task at_place, b.core.good.few, b.long)
+      window_there =
+          let rows : List Task = tasks_in c in
+          let some : i < length rows = place_below rows i coming.task at_place in
+          omega (arith, length-take (length rows) ws, ap length b.lengths, length-map rows (window_length rows))
+
+      -- its window stands at its place
+      pub window-here : window (tasks_in c) coming.task ≡ At (get_or ws i 0)
+      unfolding window_length value
+      window-here =
+          let rows : List Task = tasks_in c in
+          let w = b.windowed coming.task (place_in_lem rows i coming.task at_place) in
+          let stands : get_or ws i 0 ≡ window_length rows coming.task
+          = sym (get_or-take (length rows) ws i 0 (place_below rows i coming.task at_place))
+          ∙ ap (λ (l : List ℕ). get_or l i 0) b.lengths ∙ place_get (window_length rows) 0 rows i coming.task at_place in
+          w.1 ∙ ap At (sym (stands ∙ ap value w.1))
 
       -- what its bounds ask for
       abbrev pub bounding : Bounding c.asked c.own.count i (get_or ws i 0) (lent c.own a i)
-      bounding = record { at = at_row b.core i coming.task at_place; windowed = b.stand i coming.task at_place; timed = coming.own }
+      bounding = record { at = at_row b.core i coming.task at_place; windowed = window-here; timed = coming.own }
 
       module _ (put : List ℕ) (left : put ≡ bounds_on (take c.own.count c.asked) i (get_or ws i 0) (lent c.own a i)) (n : ℕ)
           (count : n ≡ (get_or c.own.rows i zero_row).parts) where

@@ -10,9 +10,9 @@ use Rattle.lists.specs.Lists.{◌∈◌, Place, keep}
 use Rattle.lists.proofs.Places.{place_in_lem, place_below, place_get}
 use Rattle.model.specs.Task.{Task}
 use Rattle.model.specs.Least.{value}
-use Rattle.model.specs.Bounds.{preemptive, cooperative, higher, blocking, window, row_bounds}
-use Rattle.model.specs.Rounds.{row_rounds}
+use Rattle.model.specs.Bounds.{preemptive, cooperative, higher, blocking, row_bounds}
 use Rattle.table.specs.Memory.{zero_row, row_of}
+use Rattle.bounds.specs.declared.Answer.{Answer}
 use Rattle.bounds.specs.Loads.{loads, Summable, window_answer}
 use Rattle.bounds.specs.Promises.{bounds_in, OwnRow}
 use Rattle.bounds.proofs.Asked.{window-asked, window-answered}
@@ -24,7 +24,7 @@ use Rattle.cores.specs.Cores.{asked_of, tasks_in}
 use Rattle.cores.specs.Promises.{asked_at, own_first, wanted_loads, blocking_in, IsCore}
 use Rattle.cores.proofs.Wanted.{own-most, wanted-most}
 use Rattle.cores.proofs.AskedRows.{used-asked, asked_is, own_first_is, preemptive_is, blocking_in_is}
-use Rattle.analysis.specs.Promises.{AtRow, Bounding, windowed_by, window_in, bounds_on}
+use Rattle.analysis.specs.Promises.{AtRow, Bounding, window_in, bounds_on, window_length}
 
 module _ {c : Core} (k : IsCore c) where
   -- as many rows as it counts
@@ -104,12 +104,11 @@ module _ {asked : List Asked} {count own : ℕ} (a : AtRow asked count own) wher
   window_may {l = l} {b = b} e f =
       window-asked a.rows a.good a.t own_in l b (e ∙ own-loads) (f ∙ own-blocking)
 
-  -- what it answers is its window, and the rounds of the search for it
-  pub window_in_lem : window_in (take count asked) own
-      ≡ record { length = value (window a.rows a.t); rounds = row_rounds a.rows a.t }
-  unfolding window_in window_answer
+  -- what it answers is its window
+  pub window_in_lem : window_in (take count asked) own ≡ window_length a.rows a.t
+  unfolding window_in window_length window_answer
   window_in_lem =
-      ap windowed_by
+      ap (λ (x : Answer). value x.found)
       (window-answered a.rows a.good a.t own_in (own_first (take count asked) own) (blocking_in (take count asked) own)
       own-loads own-blocking)
 

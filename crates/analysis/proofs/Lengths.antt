@@ -1,15 +1,17 @@
 -- A row's window as a number: 0 exactly where there is none. Assumes nothing.
-use Prim.Native.Nat.{ℕ, ◌≤◌}
+use Prim.Native.Nat.{◌≤◌}
 use native.Mathlib.Omega.{arith}
-use mathlib.Core.Path.{◌≡◌, refl, sym, ap}
+use mathlib.Core.Path.{◌≡◌, refl}
+use mathlib.Core.Bool.{true, false, not}
 use mathlib.Core.List.{List}
 use Rattle.model.specs.declared.Found.{Found}
 use Rattle.model.specs.declared.Found.TheVariants.{At, Nothing}
 use Rattle.model.specs.Task.{Task}
-use Rattle.model.specs.Least.{value, Says}
+use Rattle.model.specs.Least.{found, value, Says}
 use Rattle.model.specs.Bounds.{limit, demand, window}
 use Rattle.model.proofs.Least.{least_says}
 use Rattle.model.proofs.Most.{value-most}
+use Rattle.analysis.specs.Promises.{window_length, lacks}
 
 module _ (rows : List Task) (t : Task) where
   -- what the window says
@@ -18,24 +20,24 @@ module _ (rows : List Task) (t : Task) where
   says = least_says (demand rows t) 1 limit
 
   -- it is at most the limit
-  pub length_small : value (window rows t) ≤ 16777215
+  pub length_small : window_length rows t ≤ 16777215
+  unfolding window_length
   length_small = value-most (demand rows t) 1 16777215 (window rows t) says
 
-  module _ (n : ℕ) (is : n ≡ value (window rows t)) where
-    -- a length of 0 is no window
-    pub zero_none : n ≡ 0 → window rows t ≡ Nothing
-    unfolding value
-    zero_none z = of (window rows t) says is
-      where
-        of : (a : Found) → Says (demand rows t) 1 16777215 a → n ≡ value a → a ≡ Nothing
-        of (At x) s e = absurd (omega (arith, s.above))
-        of Nothing s e = refl
+  -- a row whose length is 0 has no window
+  pub zero-lacks : window_length rows t ≡ 0 → lacks rows t ≡ true
+  unfolding window_length lacks value found
+  zero-lacks = of (window rows t) says
+    where
+      of : (a : Found) → Says (demand rows t) 1 16777215 a → value a ≡ 0 → not (found a) ≡ true
+      of (At x) s e = absurd (omega (arith, s.above))
+      of Nothing s e = refl
 
-    -- any other is the window
-    pub some_at : (n ≡ 0 → ⊥) → window rows t ≡ At n
-    unfolding value
-    some_at h = of (window rows t) is
-      where
-        of : (a : Found) → n ≡ value a → a ≡ At n
-        of (At x) e = ap At (sym e)
-        of Nothing e = absurd (h e)
+  -- any other has one
+  pub some_has : (window_length rows t ≡ 0 → ⊥) → lacks rows t ≡ false
+  unfolding window_length lacks value found
+  some_has = of (window rows t)
+    where
+      of : (a : Found) → (value a ≡ 0 → ⊥) → not (found a) ≡ false
+      of (At x) h = refl
+      of Nothing h = absurd (h refl)

@@ -3,6 +3,6 @@ pub mod Given
 pub mod Tops
 pub mod Lengths
 pub mod Cored
-pub mod Downward
+pub mod Sought
 pub mod BoundsPut
 pub mod Tabled

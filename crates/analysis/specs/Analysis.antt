@@ -1,13 +1,12 @@
--- Document 01, "Codes and what they leave", with the rounds of document 02, §5: one core's answer, and what it leaves in lent room.
+-- Document 01, "Codes and what they leave": one core's answer, and what it leaves in lent room.
 use Rattle.std.specs.Prelude.{ℕ, ◌≡◌, Bool, ◌||◌, List, [], length, eqb, ltb}
 use Rattle.lists.specs.Lists.{pick, total, each, over}
 use Rattle.model.specs.Task.{Task, parts}
 use Rattle.model.specs.Bounds.{on_core, row_bounds, CoreVerdict, passes, no_window, misses, core_verdict}
-use Rattle.model.specs.Rounds.{core_rounds}
 use Rattle.table.specs.declared.Table.{Table}
 use Rattle.table.specs.declared.Verdict.{Verdict}
 use Rattle.table.specs.declared.Verdict.TheVariants.{Good, NoSuchCore, NoRoom, NoWindow, Missed}
-use Rattle.table.specs.Verdicts.{code_of, good, ◌or_else◌}
+use Rattle.table.specs.Verdicts.{code_of, ◌or_else◌}
 use Rattle.table.specs.Memory.{tasks_of}
 use Rattle.table.specs.Faults.{fault_of}
 use Rattle.fields.specs.Stepping.{Step, stop, go}
@@ -44,18 +43,13 @@ said_of tasks core = core_said core (on_core core tasks) (needed (on_core core t
 unfoldable pub writes : Verdict → Bool
 writes v = eqb (code_of v) 0 || eqb (code_of v) 12
 
--- these two come after the search for the windows, and so does 11
-unfoldable pub after_search : Verdict → Bool
-after_search v = writes v || eqb (code_of v) 11
-
--- a refusal before any search
+-- a refusal that writes none
 abbrev pub refusal : Verdict → Analysed
-refusal v = record { verdict = v; count = 0; rounds = 0 }
+refusal v = record { verdict = v; count = 0 }
 
--- the answer also says how many bounds were written, and how many rounds the searches for the windows took
+-- the answer also says how many bounds were written
 unfoldable pub answered : Verdict → List Task → Analysed
-answered v rows =
-    record { verdict = v; count = pick (writes v) (needed rows) 0; rounds = pick (after_search v) (core_rounds rows) 0 }
+answered v rows = pick (writes v) (record { verdict = v; count = needed rows }) (refusal v)
 
 -- elements past the bounds stay
 unfoldable pub room_after : Verdict → List Task → List ℕ → List ℕ
@@ -84,7 +78,3 @@ table_said t core room = fault_of t or_else core_said core (on_core core (tasks_
 
 abbrev pub AnalysesTable : Table → ℕ → List ℕ → Analysed → List ℕ → Type 0
 AnalysesTable t core room r room' = Gives (table_said t core (length room)) (on_core core (tasks_of t)) room r room'
-
--- the rounds of a core alone, without working out a bound: 0 for a table with a fault of its own and for a core above 3
-unfoldable pub table_rounds : Table → ℕ → ℕ
-table_rounds t core = pick (good (fault_of t)) (pick (ltb 3 core) 0 (core_rounds (on_core core (tasks_of t)))) 0

@@ -5,14 +5,12 @@ use Rattle.lists.specs.Lists.{Place, over, total}
 use Rattle.model.specs.Task.{Task, parts}
 use Rattle.model.specs.Rows.{GoodCore}
 use Rattle.model.specs.declared.Found.TheVariants.{At}
-use Rattle.model.specs.Least.{value}
-use Rattle.model.specs.Bounds.{on_core, window, meets_deadline, highest, id_of, core_verdict}
-use Rattle.model.specs.Rounds.{core_rounds}
+use Rattle.model.specs.Least.{found, value}
+use Rattle.model.specs.Bounds.{on_core, window, meets_deadline, highest, id_of}
+use Rattle.model.specs.Verdict.{AllWindows}
 use Rattle.table.specs.declared.Row.{Row}
 use Rattle.table.specs.declared.Table.{Table}
-use Rattle.table.specs.declared.Verdict.TheVariants.{NoWindow}
 use Rattle.table.specs.Memory.{tasks_of}
-use Rattle.bounds.specs.declared.Answer.{Answer}
 use Rattle.bounds.specs.Loads.{searched}
 use Rattle.bounds.specs.Promises.{bounds_in}
 use Rattle.cores.specs.declared.Asked.{Asked}
@@ -22,19 +20,13 @@ use Rattle.cores.specs.declared.Which.TheVariants.{Preemptive}
 use Rattle.cores.specs.Promises.{asked_at, own_first, wanted_loads, blocking_in, IsCore}
 use Rattle.analysis.specs.declared.Top.{Top}
 use Rattle.analysis.specs.declared.Analysed.{Analysed}
-use Rattle.analysis.specs.declared.Windowed.{Windowed}
-use Rattle.analysis.specs.declared.WindowSearch.{WindowSearch}
-use Rattle.analysis.specs.Analysis.{core_bounds, named, core_said, Gives}
+use Rattle.analysis.specs.Analysis.{core_bounds, core_said, Gives}
 
 -- ---- one row, in numbers
 
--- an answer as a length, 0 for none, and its rounds
-abbrev pub windowed_by : Answer → Windowed
-windowed_by a = record { length = value a.found; rounds = a.rounds }
-
--- its window, and the rounds of the search for it
-unfoldable pub window_in : List Asked → ℕ → Windowed
-window_in asks own = windowed_by (searched (own_first asks own) (blocking_in asks own) (get_or (own_first asks own) 1 0))
+-- its window, 0 for none
+unfoldable pub window_in : List Asked → ℕ → ℕ
+window_in asks own = value (searched (own_first asks own) (blocking_in asks own) (get_or (own_first asks own) 1 0)).found
 
 -- the bounds of its parts, from its window and its times
 unfoldable pub bounds_on : List Asked → ℕ → ℕ → List ℕ → List ℕ
@@ -59,7 +51,14 @@ pub record Bounding (asked : List Asked) (count own long : ℕ) (times : List �
 
 -- ---- all rows of a core
 
--- a row that misses its deadline
+-- a row's window, 0 for none
+unfoldable pub window_length : List Task → Task → ℕ
+window_length rows t = value (window rows t)
+
+-- a row without a window, and one that misses its deadline
+unfoldable pub lacks : List Task → Task → Bool
+lacks rows t = not (found (window rows t))
+
 unfoldable pub late : List Task → Task → Bool
 late rows t = not (meets_deadline rows t)
 
@@ -71,21 +70,16 @@ unfoldable pub top_of : Option Task → Top
 top_of none = record { id = 0; priority = 0 }
 top_of (some t) = record { id = t.id; priority = t.priority }
 
--- each row has a window, and it stands at the row's place
-abbrev pub WindowsAt : List Task → List ℕ → Type 0
-WindowsAt rows lengths = (i : ℕ) (t : Task) → Place rows i t → window rows t ≡ At (get_or lengths i 0)
+-- each row's window stands in front, and the highest row without one is named
+pub record Windows (rows : List Task) (old : List ℕ) (r : ℕ) (new : List ℕ) : Type 0 where
+  pub lengths : new ≡ over (map (window_length rows) rows) old
+  pub names : r ≡ id_of (highest (lacks rows) rows)
 
--- what the searches for the windows give: the row that code 11 names, or each row's window at its place; and the rounds
-pub record Windows (rows : List Task) (r : WindowSearch) (lengths : List ℕ) : Type 0 where
-  pub names : (r.lacking ≡ 0 → ⊥) → named (core_verdict rows) ≡ NoWindow r.lacking
-  pub stand : r.lacking ≡ 0 → WindowsAt rows lengths
-  pub counts : r.rounds ≡ core_rounds rows
-
--- a core whose rows all have a window, and these stand at their places; there is room for every bound
+-- a core whose rows all have a window, and these stand in front; there is room for every bound
 pub record ToBound (c : Core) (windows : List ℕ) (room : ℕ) : Type 0 where
   pub core : IsCore c
-  pub long : 64 ≤ length windows
-  pub stand : WindowsAt (tasks_in c) windows
+  pub windowed : AllWindows (tasks_in c)
+  pub lengths : take (length (tasks_in c)) windows ≡ map (window_length (tasks_in c)) (tasks_in c)
   pub enough : total parts (tasks_in c) ≤ room
 
 -- every bound stands in front, and the highest row that misses its deadline is named

@@ -1,11 +1,11 @@
-// One core's answer: what is said of it, its rounds, and its bounds in lent room.
+// One core's answer: what is said of it, and its bounds in lent room.
 ghost use Rattle.std.specs.Prelude.{◌≡◌, ◌≤◌, ◌<◌, length, take, ltb};
 ghost use Rattle.lists.specs.Lists.{pick};
 ghost use Rattle.table.specs.Verdicts.{code_of};
 ghost use Rattle.table.specs.Faults.{fault_of};
 ghost use Rattle.cores.specs.Cores.{tasks_in};
 ghost use Rattle.cores.specs.Promises.{IsCore};
-ghost use Rattle.analysis.specs.Analysis.{refusal, room_said, Gives, Analyses, AnalysesTable, table_rounds};
+ghost use Rattle.analysis.specs.Analysis.{refusal, room_said, Gives, Analyses, AnalysesTable};
 ghost use Rattle.analysis.specs.Promises.{AtRow, Bounding, ToBound, window_in, bounds_on, top_row, Windows, Bounded};
 ghost use Rattle.analysis.specs.Promises.{AnalysesGood};
 
@@ -13,12 +13,11 @@ use bounds::Own;
 use cores::{Asked, Core};
 use table::{Row, Table, Verdict};
 
-// What is said of a core, how many bounds were written, and how many rounds the searches for the windows took.
+// What is said of a core, and how many bounds were written.
 #[derive(Drop)]
 pub struct Analysed {
     pub verdict: Verdict,
     pub count: usize,
-    pub rounds: u32,
 }
 
 // The row to name so far: its id and priority, both 0 for none.
@@ -28,32 +27,11 @@ struct Top {
     priority: u32,
 }
 
-// A row's window, 0 for none, and the rounds of the search for it.
-#[derive(Drop)]
-struct Windowed {
-    length: u32,
-    rounds: u32,
-}
-
-// The id of the highest row without a window, 0 where all have one, and the rounds of the searches down to it.
-#[derive(Drop)]
-struct WindowSearch {
-    lacking: u32,
-    rounds: u32,
-}
-
-// A priority above that of every row.
-const ABOVE_ALL: u32 = 256;
-
-// What is said before any search.
+// What is said where no bound is written.
 fn refused(verdict: Verdict) -> Analysed
     ensures { result ≡ refusal verdict }
 {
-    Analysed {
-        verdict,
-        count: 0,
-        rounds: 0,
-    }
+    Analysed { verdict, count: 0 }
 }
 
 // The higher of the row to name so far and another.
@@ -69,8 +47,8 @@ fn higher_of(top: Top, row: Row) -> Top
     top
 }
 
-// The window of row `own`.
-fn row_window(asked: [Asked; 64], count: usize, own: usize) -> Windowed
+// The window of row `own`, 0 for none.
+fn row_window(asked: [Asked; 64], count: usize, own: usize) -> u32
     requires { AtRow asked count own }
     ensures { result ≡ window_in (take count asked) own }
 {
@@ -78,36 +56,29 @@ fn row_window(asked: [Asked; 64], count: usize, own: usize) -> Windowed
     let mut loads = [0u32; 128];
     let n = cores::own_first(asked, count, own, &mut loads);
     let answer = bounds::window_of(&loads[..n], blocking);
-    Windowed {
-        length: bounds::value_of(answer) as u32,
-        rounds: answer.rounds as u32,
-    }
+    bounds::value_of(answer) as u32
 }
 
-// The windows of the rows from the highest priority down, each to its row's place in `out`, ending with the first row without one.
-fn windows(c: Core, out: &mut [u32]) -> WindowSearch
+// The window of each row, 0 for none, to the front of `out`; the id of the highest row without one, 0 where all have one.
+fn windows(c: Core, out: &mut [u32]) -> u32
     requires { IsCore c × (64 ≤ length out.old) }
-    ensures { Windows (tasks_in c) result out.new }
+    ensures { Windows (tasks_in c) out.old result out.new }
 {
     let own = c.own;
     let n = own.count;
     let asked = c.asked;
-    let mut rounds: u32 = 0;
-    let mut i = cores::highest_below(asked, n, ABOVE_ALL);
+    let mut top = Top { id: 0, priority: 0 };
+    let mut i = 0;
     while i < n {
-        let row = own.rows[i];
-        let window = row_window(asked, n, i);
-        rounds += window.rounds;
-        if window.length == 0 {
-            return WindowSearch {
-                lacking: row.id,
-                rounds,
-            };
+        let length = row_window(asked, n, i);
+        out[i] = length;
+        if length == 0 {
+            let row = own.rows[i];
+            top = higher_of(top, row);
         }
-        out[i] = window.length;
-        i = cores::highest_below(asked, n, row.priority);
+        i += 1;
     }
-    WindowSearch { lacking: 0, rounds }
+    top.id
 }
 
 // The bounds of row `own`, whose window and times are these.
@@ -172,27 +143,20 @@ pub fn analyse_core(c: Core, room: &mut [u32]) -> Analysed
         return refused(Verdict::NoRoom(needed));
     }
     let mut lengths = [0u32; 64];
-    let search = windows(c, &mut lengths);
-    let rounds = search.rounds;
-    if search.lacking != 0 {
-        return Analysed {
-            verdict: Verdict::NoWindow(search.lacking as usize),
-            count: 0,
-            rounds,
-        };
+    let none = windows(c, &mut lengths);
+    if none != 0 {
+        return refused(Verdict::NoWindow(none as usize));
     }
     let late = core_bounds(c, &lengths, room);
     if late != 0 {
         return Analysed {
             verdict: Verdict::Missed(late as usize),
             count: needed,
-            rounds,
         };
     }
     Analysed {
         verdict: Verdict::Good,
         count: needed,
-        rounds,
     }
 }
 
@@ -229,19 +193,4 @@ pub fn analyse(bytes: &[u8], core: u32, room: &mut [u32]) -> Analysed
     }
     let table = file.table;
     analyse_good(table, core, room)
-}
-
-// How many rounds the searches for the windows of a core take, without working out a bound; 0 for a faulty table or a core above 3.
-pub fn rounds_of(t: Table, core: u32) -> u32
-    ensures { result ≡ table_rounds t core }
-{
-    if table::code_of(table::fault_of(t)) != 0 {
-        return 0;
-    }
-    if core > 3 {
-        return 0;
-    }
-    let mut lengths = [0u32; 64];
-    let search = windows(cores::core_of(t, core), &mut lengths);
-    search.rounds
 }

@@ -7,8 +7,7 @@ use lib.ListN.{length, get_or}
 use Rattle.lists.specs.Lists.{◌∈◌, each, total}
 use Rattle.model.specs.Task.{Task, cost}
 use Rattle.model.specs.Rows.{GoodCore}
-use Rattle.model.specs.Least.{least}
-use Rattle.model.specs.Rounds.{rounds_from, row_rounds}
+use Rattle.model.specs.Least.{least, rounds}
 use Rattle.model.specs.Bounds.{limit, higher, blocking, demand}
 use Rattle.model.proofs.Rows.{period_pos}
 use Rattle.model.proofs.Parts.{cost_pos}
@@ -29,12 +28,12 @@ module _ (rows : List Task) (core : GoodCore rows) (t : Task) (m : t ∈ rows) w
 
   -- begun at the row's C it answers with the window
   pub window_is : searched (loads (t ∷ higher rows t)) (blocking rows t) (cost t) ≡ window_answer rows t
-  unfolding searched window_answer row_rounds limit
+  unfolding searched window_answer limit
   window_is =
       let from-cost = window-from-cost rows t (period_pos rows core t m) (cost_pos t (core.good t m)) in
-      ap (λ (g : ℕ → ℕ). record { found = least g (cost t) 16777215; rounds = rounds_from g 16777215 (cost t) })
+      ap (λ (g : ℕ → ℕ). record { found = least g (cost t) 16777215; rounds = rounds g 16777215 16777216 (cost t) })
       (fun_ext side-demand)
-      ∙ ap (λ f. record { found = f; rounds = rounds_from (demand rows t) 16777215 (cost t) }) (sym from-cost)
+      ∙ ap (λ f. record { found = f; rounds = rounds (demand rows t) 16777215 16777216 (cost t) }) (sym from-cost)
 
   module _ (own_first : List ℕ) (blocked : ℕ) (loaded : own_first ≡ loads (t ∷ higher rows t)) (blocks : blocked ≡ blocking rows t)
     where

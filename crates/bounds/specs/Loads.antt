@@ -2,9 +2,8 @@
 use Rattle.std.specs.Prelude.{ℕ, ◌+◌, ◌*◌, ◌≤◌, List, [], ◌∷◌, length}
 use Rattle.lists.specs.Lists.{each}
 use Rattle.model.specs.Task.{Task, cost}
-use Rattle.model.specs.Bounds.{up, window}
-use Rattle.model.specs.Least.{least, value}
-use Rattle.model.specs.Rounds.{rounds_from, row_rounds}
+use Rattle.model.specs.Bounds.{up, window, demand}
+use Rattle.model.specs.Least.{least, rounds, value}
 use Rattle.bounds.specs.declared.Answer.{Answer}
 
 -- a row's two numbers
@@ -39,7 +38,7 @@ side rows base x = base + work_at rows x
 -- what a search answers: the least solution from `from` up to the limit, and how often the right side was worked out
 unfoldable pub searched : List ℕ → ℕ → ℕ → Answer
 searched rows base from =
-    record { found = least (side rows base) from 16777215; rounds = rounds_from (side rows base) 16777215 from }
+    record { found = least (side rows base) from 16777215; rounds = rounds (side rows base) 16777215 16777216 from }
 
 -- the solution as a number, 0 for none
 abbrev pub solution : List ℕ → ℕ → ℕ → ℕ
@@ -47,4 +46,4 @@ solution rows base from = value (searched rows base from).found
 
 -- what is answered for a row's window: its length, and how often the right side was worked out from the row's C on
 unfoldable pub window_answer : List Task → Task → Answer
-window_answer rows t = record { found = window rows t; rounds = row_rounds rows t }
+window_answer rows t = record { found = window rows t; rounds = rounds (demand rows t) 16777215 16777216 (cost t) }

@@ -32,7 +32,7 @@ pub fn work(loads: &[u32], x: u64) -> u64
     sum
 }
 
-// The least number from `from` up to the limit that is base plus the rows' work before it, and in how many rounds it was found.
+// The least number from `from` up to the limit that is base plus the rows' work before it.
 pub fn search(loads: &[u32], base: u64, from: u64) -> Answer
     requires summable { Summable loads.now }
     requires base_bound { base ≤ 2 ^ 62 }

@@ -2,4 +2,3 @@ pub mod Wanted
 pub mod AskedRows
 pub mod GoodCores
 pub mod Fronts
-pub mod Below

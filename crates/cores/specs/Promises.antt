@@ -1,5 +1,5 @@
 -- Inner: what the functions on what is asked of rows promise, in those numbers.
-use Rattle.std.specs.Prelude.{ℕ, ◌-◌, ◌≤◌, ◌<◌, ◌≡◌, Bool, List, [], ◌∷◌, map, length, get_or, eqb, ltb}
+use Rattle.std.specs.Prelude.{ℕ, ◌-◌, ◌≤◌, ◌≡◌, Bool, List, [], ◌∷◌, map, length, get_or, eqb, ltb}
 use Rattle.lists.specs.Lists.{pick, keep, each, over, largest, total}
 use Rattle.model.specs.Task.{parts}
 use Rattle.model.specs.Rows.{GoodCore}
@@ -29,19 +29,6 @@ asked_at rows i = get_or rows i asked_nothing
 -- those of row i first, those of the higher rows behind
 abbrev pub own_first : List Asked → ℕ → List ℕ
 own_first rows i = each asked_load (asked_at rows i ∷ keep (is_wanted (Above (asked_at rows i).priority)) rows)
-
--- row i is the highest below a priority, the first of equals; where no row below it has a priority above 0, i is how many rows there are
-pub record HighestBelow (priority : ℕ) (rows : List Asked) (i : ℕ) : Type 0 where
-  -- the place of a row, or how many rows there are
-  pub within : i ≤ length rows
-  -- a row found is below the priority
-  pub below : i < length rows → (asked_at rows i).priority < priority
-  -- and its own priority is above 0
-  pub some : i < length rows → 0 < (asked_at rows i).priority
-  -- no row below the priority is higher; where none is found, none is higher than 0
-  pub most : (j : ℕ) → (asked_at rows j).priority < priority → (asked_at rows j).priority ≤ (asked_at rows i).priority
-  -- of equals it is the first: an earlier row below the priority is lower
-  pub first : i < length rows → (j : ℕ) → j < i → (asked_at rows j).priority < priority → (asked_at rows j).priority < (asked_at rows i).priority
 
 -- the longest part among the rows below a priority
 abbrev pub longest_below : ℕ → List Asked → ℕ

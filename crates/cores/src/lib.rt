@@ -6,8 +6,7 @@ ghost use Rattle.table.specs.Verdicts.{code_of};
 ghost use Rattle.table.specs.Faults.{fault_of};
 ghost use Rattle.table.specs.Memory.{task_of, tasks_of};
 ghost use Rattle.cores.specs.Cores.{asked_of, asked_nothing, core_of};
-ghost use Rattle.cores.specs.Promises.{is_wanted, wanted_loads, PutInFront, own_first, HighestBelow};
-ghost use Rattle.cores.specs.Promises.{longest_below, blocking_in};
+ghost use Rattle.cores.specs.Promises.{is_wanted, wanted_loads, PutInFront, own_first, longest_below, blocking_in};
 
 use table::{Row, Table};
 
@@ -176,25 +175,6 @@ pub fn preemptive_loads(asked: [Asked; 64], count: usize, out: &mut [u32]) -> us
     ensures { PutInFront (wanted_loads Which.Preemptive (take count asked)) out.old out.new result }
 {
     put_loads(asked, count, Which::Preemptive, 0, &mut *out)
-}
-
-// Which row is the highest with a priority above 0 and below this, the first of equals; `count` where there is none.
-pub fn highest_below(asked: [Asked; 64], count: usize, priority: u32) -> usize
-    requires { count ≤ 64 }
-    ensures { HighestBelow priority (take count asked) result }
-{
-    let mut best = count;
-    let mut most: u32 = 0;
-    let mut i: usize = 0;
-    while i < count {
-        let a = asked[i];
-        if a.priority < priority && most < a.priority {
-            best = i;
-            most = a.priority;
-        }
-        i += 1;
-    }
-    best
 }
 
 // The longest part among the rows with a priority below this, 0 for none.

@@ -6,7 +6,6 @@ use mathlib.Core.Path.{◌≡◌, sym, ap, subst, ◌∙◌}
 use mathlib.Core.Logic.{◌⊎◌, inl, inr, ⊎_elim}
 use mathlib.Core.Bool.{true, false}
 use mathlib.Core.List.{List}
-use lib.Dec.{lit≤}
 use lib.ListN.{length}
 use Rattle.lists.specs.Lists.{over}
 use Rattle.lists.proofs.Overs.{over-length}
@@ -14,7 +13,7 @@ use Rattle.model.specs.Task.{Task}
 use Rattle.model.specs.Bounds.{on_core}
 use Rattle.table.specs.declared.Verdict.{Verdict}
 use Rattle.table.specs.Verdicts.{code_of}
-use Rattle.table.proofs.ReadingCodes.{RefusedReading, refused-not_0, refused-not-core}
+use Rattle.table.proofs.ReadingCodes.{RefusedReading, refused-not_0, refused-not_12}
 use Rattle.files.specs.Reading.{decode, read_answer}
 use Rattle.analysis.specs.declared.Analysed.{Analysed}
 use Rattle.analysis.proofs.Given.{answered-verdict}
@@ -79,14 +78,14 @@ does_write v (inl e) = rw (eq-eqb (code_of v) 0 e)
 does_write v (inr e) = rw e
 
 -- no other does
-keeps : (v : Verdict) → (code_of v ≡ 0 → ⊥) → (code_of v ≡ 12 → ⊥) → writes v ≡ false
+pub keeps : (v : Verdict) → (code_of v ≡ 0 → ⊥) → (code_of v ≡ 12 → ⊥) → writes v ≡ false
 unfolding writes
 keeps v a b = rw (ne_eqb (code_of v) 0 a, ne_eqb (code_of v) 12 b)
 
 -- a refused file has neither
 refused-not : (v : Verdict) → RefusedReading v → WriteCode v → ⊥
 refused-not v c (inl e) = refused-not_0 v c e
-refused-not v c (inr e) = refused-not-core v c 12 (lit≤ tt) (lit≤ tt) e
+refused-not v c (inr e) = refused-not_12 v c e
 
 module _ (v : Verdict) (rows : List Task) (room : List ℕ) (r : Analysed) (room' : List ℕ) (g : Gives v rows room r room') where
   -- the verdict is what is said

@@ -2,7 +2,7 @@
 use Prim.Native.Nat.{ℕ}
 use native.Mathlib.Omega.{arith}
 use borrow.Author.Tests.{lt-ltb, le-ltb}
-use mathlib.Core.Path.{◌≡◌, refl, sym, ap, subst, ◌∙◌}
+use mathlib.Core.Path.{◌≡◌, refl, sym, subst}
 use mathlib.Core.Logic.{◌⊎◌, inl, inr, ⊎_elim}
 use mathlib.Core.Bool.{false}
 use mathlib.Core.List.{List}
@@ -16,13 +16,13 @@ use Rattle.table.specs.declared.Verdict.{Verdict}
 use Rattle.table.specs.declared.Verdict.TheVariants as C
 use Rattle.table.specs.Verdicts.{code_of, good}
 use Rattle.analysis.specs.Analysis.{needed, named, room_said, core_said}
-use Rattle.analysis.proofs.Given.{said_is}
 use Rattle.demands.specs.Rules.{RoomFor, CoreRule}
 
 module _ (core : ℕ) (rows : List Task) (room : ℕ) where
   -- with such a core and room enough the verdict decides
   enough_said : RoomFor core rows room → (v : CoreVerdict) → core_verdict rows ≡ v → core_said core rows room ≡ named v
-  enough_said e v same = said_is core rows room e.such e.fits ∙ ap named same
+  unfolding core_said room_said
+  enough_said e v same = rw (le-ltb 3 core e.such, le-ltb room (needed rows) e.fits, same)
 
   -- a right verdict is the core's
   right : Distinct rows → (v : CoreVerdict) → Judged rows v → core_verdict rows ≡ v

@@ -3,7 +3,6 @@ use Rattle.model.proofs.MachineSample.{machine_sample}
 use Rattle.model.proofs.BegunSample.{begun_sample}
 use Rattle.model.proofs.Periodic.{periodic_allowed}
 use Rattle.model.proofs.ChainDelays.{chain_delays}
-use Rattle.model.proofs.RoundSamples.{round_samples}
 use Rattle.machine.proofs.NoRunIsLater.{no_run_is_later}
 use Rattle.machine.proofs.PassingSample.{passing_sample}
 use Rattle.files.proofs.Short.{good-file_is_short}
@@ -29,7 +28,6 @@ use Rattle.demands.proofs.TextSamples.{text_samples}
 use Rattle.demands.proofs.ChainSamples.{chain_samples}
 use Rattle.demands.proofs.Texts.{texts}
 use Rattle.demands.proofs.Chains.{chains}
-use Rattle.demands.proofs.Rounds as rounds
 use Rattle.demands.proofs.Unique.{unique}
 
 -- of files
@@ -74,7 +72,6 @@ worked =
       begun = begun_sample;
       delays = chain_delays;
       passing = passing_sample;
-      rounds = round_samples;
       periodic = periodic_allowed;
     }
 
@@ -91,7 +88,6 @@ demands =
       sheets = sheets;
       texts = texts;
       chains = chains;
-      rounds = rounds.rounds;
       samples = worked;
       unique = unique;
     }

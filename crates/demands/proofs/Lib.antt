@@ -22,14 +22,11 @@ pub mod TableCodes
 pub mod Texts
 pub mod Placed
 pub mod Equations
-pub mod RoundCounts
-pub mod RoundTotals
 pub mod Delays
 pub mod Passed
 pub mod Demand2
 pub mod Demand3
 pub mod Chains
-pub mod Rounds
 pub mod Codes
 pub mod GoodRows
 pub mod AfterReading

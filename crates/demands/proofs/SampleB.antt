@@ -7,7 +7,6 @@ use Rattle.model.specs.declared.Found.TheVariants.{At, Nothing}
 use Rattle.model.specs.Task.{Task}
 use Rattle.model.specs.Bounds.{limit, window, core_verdict, no_window}
 use Rattle.model.proofs.Least.{least_never}
-use Rattle.model.proofs.RoundSamples.{rounds_opened}
 use Rattle.model.proofs.Rounding.{before_pos, before_covers}
 use Rattle.table.specs.declared.Verdict.TheVariants as C
 use Rattle.fields.specs.Stepping.{stop, go}
@@ -51,35 +50,33 @@ judged2 = rw (none41, window43)
 -- ---- answers
 
 -- core 0
-answer0 : Analyses bytes_b 0 (0 ∷ 0 ∷ 0 ∷ 0 ∷ 0 ∷ 71 ∷ 72 ∷ []) (record { verdict = C.Good; count = 5; rounds = 9 })
+answer0 : Analyses bytes_b 0 (0 ∷ 0 ∷ 0 ∷ 0 ∷ 0 ∷ 71 ∷ 72 ∷ []) (record { verdict = C.Good; count = 5 })
     (2 ∷ 24 ∷ 30 ∷ 19 ∷ 39 ∷ 71 ∷ 72 ∷ [])
-unfolding bounds-found core_judged answer_given rounds_opened
+unfolding bounds-found core_judged answer_given
 answer0 = rw reads (record { answer = refl; left = refl })
 
 -- core 1
-answer1 : Analyses bytes_b 1 (0 ∷ 0 ∷ 71 ∷ 72 ∷ []) (record { verdict = C.Missed 33; count = 2; rounds = 4 })
-    (6 ∷ 17 ∷ 71 ∷ 72 ∷ [])
-unfolding bounds-found core_judged answer_given rounds_opened
+answer1 : Analyses bytes_b 1 (0 ∷ 0 ∷ 71 ∷ 72 ∷ []) (record { verdict = C.Missed 33; count = 2 }) (6 ∷ 17 ∷ 71 ∷ 72 ∷ [])
+unfolding bounds-found core_judged answer_given
 answer1 = rw reads (record { answer = refl; left = refl })
 
 -- core 2
-answer2 : Analyses bytes_b 2 (73 ∷ 74 ∷ 71 ∷ 72 ∷ []) (record { verdict = C.NoWindow 41; count = 0; rounds = 52 })
-    (73 ∷ 74 ∷ 71 ∷ 72 ∷ [])
-unfolding answer_given rounds_opened
-answer2 = rw (reads, judged2) (record { answer = rw (none41, window43); left = refl })
+answer2 : Analyses bytes_b 2 (73 ∷ 74 ∷ 71 ∷ 72 ∷ []) (record { verdict = C.NoWindow 41; count = 0 }) (73 ∷ 74 ∷ 71 ∷ 72 ∷ [])
+unfolding answer_given
+answer2 = rw (reads, judged2) (record { answer = refl; left = refl })
 
 -- core 3
-answer3 : Analyses bytes_b 3 (0 ∷ 0 ∷ []) (record { verdict = C.Good; count = 2; rounds = 1 }) (130 ∷ 259 ∷ [])
-unfolding bounds-found core_judged answer_given rounds_opened
+answer3 : Analyses bytes_b 3 (0 ∷ 0 ∷ []) (record { verdict = C.Good; count = 2 }) (130 ∷ 259 ∷ [])
+unfolding bounds-found core_judged answer_given
 answer3 = rw reads (record { answer = refl; left = refl })
 
 -- too little room
-answer_short : Analyses bytes_b 3 (73 ∷ []) (record { verdict = C.NoRoom 2; count = 0; rounds = 0 }) (73 ∷ [])
+answer_short : Analyses bytes_b 3 (73 ∷ []) (record { verdict = C.NoRoom 2; count = 0 }) (73 ∷ [])
 unfolding answer_given
 answer_short = rw reads (record { answer = refl; left = refl })
 
 -- no such core
-answer4 : Analyses bytes_b 4 (73 ∷ []) (record { verdict = C.NoSuchCore 4; count = 0; rounds = 0 }) (73 ∷ [])
+answer4 : Analyses bytes_b 4 (73 ∷ []) (record { verdict = C.NoSuchCore 4; count = 0 }) (73 ∷ [])
 unfolding answer_given
 answer4 = rw reads (record { answer = refl; left = refl })
 

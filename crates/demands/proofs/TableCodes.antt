@@ -16,7 +16,7 @@ use Rattle.table.specs.declared.Verdict.TheVariants as C
 use Rattle.table.specs.Verdicts.{code_of, good, ◌or_else◌}
 use Rattle.table.specs.Memory.{tasks_of}
 use Rattle.table.specs.Faults.{fault_of}
-use Rattle.table.proofs.ReadingCodes.{RefusedReading, refused-not_0}
+use Rattle.table.proofs.ReadingCodes.{RefusedReading, refused-not_0, refused-not_12}
 use Rattle.table.proofs.Codes.{is_good, is_fault, or-good}
 use Rattle.table.proofs.GoodTasks.{tasks-good}
 use Rattle.table.proofs.GoodCore.{good-core}
@@ -26,11 +26,10 @@ use Rattle.files.specs.Writing.{file_of}
 use Rattle.files.specs.RoundTrips.{InMemory}
 use Rattle.files.proofs.Trip.{file-here}
 use Rattle.analysis.specs.declared.Analysed.{Analysed}
-use Rattle.analysis.specs.Analysis.{writes, file_said, file_rows, table_said, AnalysesTable}
-use Rattle.analysis.proofs.Given.{reading-searches_none, unsearched}
+use Rattle.analysis.specs.Analysis.{file_said, file_rows, table_said, AnalysesTable}
 use Rattle.demands.specs.Tables.{TableRule, WriteRule, MemoryRule, WriteSays, AsFile, Tables}
 use Rattle.demands.proofs.CoreRule.{rule_said, said_rule}
-use Rattle.demands.proofs.Answer.{said, stays}
+use Rattle.demands.proofs.Answer.{keeps, said, stays}
 use Rattle.demands.proofs.Said.{said_exactly}
 use Rattle.demands.proofs.FileRule.{reading-fault, read-good}
 use Rattle.demands.proofs.Tables.{fault_first, rule-fault, fault-rule, table-code}
@@ -38,7 +37,7 @@ use Rattle.demands.proofs.Tables.{fault_first, rule-fault, fault-rule, table-cod
 -- what comes after a table's own faults
 module _ (t : Table) (next : Verdict) where
   -- a fault is said
-  pub fault_said : {v : Verdict} → TableRule t v → (v ≡ C.Good → ⊥) → fault_of t or_else next ≡ v
+  fault_said : {v : Verdict} → TableRule t v → (v ≡ C.Good → ⊥) → fault_of t or_else next ≡ v
   fault_said {v} r n = rw (rule-fault t r) (⊎_elim (λ e. absurd (n e)) (λ c. fault_first v next (refused-not_0 v c)) (table-code t r))
 
   -- without one the next decides
@@ -46,13 +45,13 @@ module _ (t : Table) (next : Verdict) where
   next_said r = or-good (fault_of t) next (ap code_of (rule-fault t r))
 
 -- a table has a fault
-pub record FaultyTable (t : Table) : Type 0 where
-  pub v : Verdict
-  pub rule : TableRule t v
-  pub code : RefusedReading v
+record FaultyTable (t : Table) : Type 0 where
+  v : Verdict
+  rule : TableRule t v
+  code : RefusedReading v
 
 -- or is good
-pub fault-or-good : (t : Table) → FaultyTable t ⊎ TableRule t C.Good
+fault-or-good : (t : Table) → FaultyTable t ⊎ TableRule t C.Good
 fault-or-good t =
     ⊎_elim (λ e. inr (subst (TableRule t) e (fault-rule t))) (λ c. inl (record { v = fault_of t; rule = fault-rule t; code = c }))
     (table-code t (fault-rule t))
@@ -137,7 +136,8 @@ fault_keeps t core room r room' a n =
     (λ f.
     (let v = table_said t core (length room) in
     let e : v ≡ f.v = fault_said t _ f.rule (reading-fault f.code) in
-    stays v _ room r room' a (ap writes e ∙ unsearched f.v (reading-searches_none f.v f.code))))
+    let same : code_of f.v ≡ code_of v = ap code_of (sym e) in
+    stays v _ room r room' a (keeps v (λ z. refused-not_0 f.v f.code (same ∙ z)) (λ z. refused-not_12 f.v f.code (same ∙ z)))))
     (λ g. absurd (n g)) (fault-or-good t)
 
 -- a good table is analysed as its file

@@ -5,7 +5,6 @@
 use Rattle.model.specs.MachineSample.{PeriodicAllowed, MachineSample}
 use Rattle.model.specs.BegunSample.{BegunSample}
 use Rattle.model.specs.ChainDelays.{ChainDelays}
-use Rattle.model.specs.RoundSamples.{RoundSamples}
 use Rattle.machine.specs.NoRunIsLater.{NoRunIsLater}
 use Rattle.machine.specs.PassingSample.{PassingSample}
 use Rattle.files.specs.RoundTrips.{GoodFileIsShort, UnusedHasNoSay}
@@ -27,7 +26,6 @@ use Rattle.demands.specs.TextSamples.{TextSamples}
 use Rattle.demands.specs.ChainSamples.{ChainSamples}
 use Rattle.demands.specs.Texts.{Texts}
 use Rattle.demands.specs.Chains.{Chains}
-use Rattle.demands.specs.Rounds.{Rounds}
 use Rattle.demands.specs.Unique.{Unique}
 
 -- files: what document 01 says of them beside the demands
@@ -59,7 +57,7 @@ pub record SheetClaims : Type 0 where
   pub refused : LineOfARefusal
   pub cut : LinesAreTheText
 
--- samples: those marked P, the machine's, a second table beside Set A, texts, chains and rounds
+-- samples: those marked P, the machine's, a second table beside Set A, texts and chains
 pub record WorkedSamples : Type 0 where
   pub marked : Samples
   pub set_a : SetAReport
@@ -71,8 +69,6 @@ pub record WorkedSamples : Type 0 where
   -- delays on Set A, and a value on its way along a chain
   pub delays : ChainDelays
   pub passing : PassingSample
-  -- rounds on Set A, the 70/100 pair, and rows without a window
-  pub rounds : RoundSamples
   -- runs whose jobs come one period apart are allowed, so that demand 3 is about some run
   pub periodic : PeriodicAllowed
 
@@ -94,8 +90,6 @@ pub record Demands : Type 0 where
   pub texts : Texts
   -- document 02, §4: the delay along a chain, and what it means
   pub chains : Chains
-  -- document 02, §5: how many rounds the searches for windows took
-  pub rounds : Rounds
   pub samples : WorkedSamples
   -- each promise on lent memory allows one result
   pub unique : Unique

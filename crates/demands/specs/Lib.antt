@@ -8,7 +8,6 @@ pub mod Tables
 pub mod TextReached
 pub mod Texts
 pub mod Chains
-pub mod Rounds
 pub mod Unique
 pub mod Codes
 pub mod GoodTables

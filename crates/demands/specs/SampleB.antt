@@ -187,20 +187,18 @@ report_b = header_b ++ (text0 ++ (text1 ++ (text2 ++ text3)))
 pub record SampleB : Type 0 where
   pub reads : decode bytes_b ≡ go tasks_b 74
   -- core 0 passes
-  pub core0 : Analyses bytes_b 0 (0 ∷ 0 ∷ 0 ∷ 0 ∷ 0 ∷ 71 ∷ 72 ∷ []) (record { verdict = C.Good; count = 5; rounds = 9 })
+  pub core0 : Analyses bytes_b 0 (0 ∷ 0 ∷ 0 ∷ 0 ∷ 0 ∷ 71 ∷ 72 ∷ []) (record { verdict = C.Good; count = 5 })
       (2 ∷ 24 ∷ 30 ∷ 19 ∷ 39 ∷ 71 ∷ 72 ∷ [])
   -- core 1 misses a deadline: every bound is written
-  pub core1 : Analyses bytes_b 1 (0 ∷ 0 ∷ 71 ∷ 72 ∷ []) (record { verdict = C.Missed 33; count = 2; rounds = 4 })
-      (6 ∷ 17 ∷ 71 ∷ 72 ∷ [])
+  pub core1 : Analyses bytes_b 1 (0 ∷ 0 ∷ 71 ∷ 72 ∷ []) (record { verdict = C.Missed 33; count = 2 }) (6 ∷ 17 ∷ 71 ∷ 72 ∷ [])
   -- core 2 has a row without a window: nothing is written
-  pub core2 : Analyses bytes_b 2 (73 ∷ 74 ∷ 71 ∷ 72 ∷ []) (record { verdict = C.NoWindow 41; count = 0; rounds = 52 })
-      (73 ∷ 74 ∷ 71 ∷ 72 ∷ [])
+  pub core2 : Analyses bytes_b 2 (73 ∷ 74 ∷ 71 ∷ 72 ∷ []) (record { verdict = C.NoWindow 41; count = 0 }) (73 ∷ 74 ∷ 71 ∷ 72 ∷ [])
   -- core 3 passes, in just the room that it needs
-  pub core3 : Analyses bytes_b 3 (0 ∷ 0 ∷ []) (record { verdict = C.Good; count = 2; rounds = 1 }) (130 ∷ 259 ∷ [])
+  pub core3 : Analyses bytes_b 3 (0 ∷ 0 ∷ []) (record { verdict = C.Good; count = 2 }) (130 ∷ 259 ∷ [])
   -- with one element less it is refused
-  pub short3 : Analyses bytes_b 3 (73 ∷ []) (record { verdict = C.NoRoom 2; count = 0; rounds = 0 }) (73 ∷ [])
+  pub short3 : Analyses bytes_b 3 (73 ∷ []) (record { verdict = C.NoRoom 2; count = 0 }) (73 ∷ [])
   -- there is no core 4
-  pub core4 : Analyses bytes_b 4 (73 ∷ []) (record { verdict = C.NoSuchCore 4; count = 0; rounds = 0 }) (73 ∷ [])
+  pub core4 : Analyses bytes_b 4 (73 ∷ []) (record { verdict = C.NoSuchCore 4; count = 0 }) (73 ∷ [])
   -- the sheet, byte for byte
   pub prints : sheet_text bytes_b ≡ report_b
   -- one row, and its id is 0: a refused file

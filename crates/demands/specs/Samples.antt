@@ -28,7 +28,7 @@ pub record Samples : Type 0 where
   -- Set A's 27 bytes are Set A
   pub read_a : decode (bytes_a 20) ≡ go (set_a 20) 27
   -- its five bounds, in a room with one element more
-  pub bounds_a : Analyses (bytes_a 20) 0 (0 ∷ 0 ∷ 0 ∷ 0 ∷ 0 ∷ 6 ∷ []) (record { verdict = C.Good; count = 5; rounds = 7 })
+  pub bounds_a : Analyses (bytes_a 20) 0 (0 ∷ 0 ∷ 0 ∷ 0 ∷ 0 ∷ 6 ∷ []) (record { verdict = C.Good; count = 5 })
       (1 ∷ 4 ∷ 7 ∷ 7 ∷ 10 ∷ 6 ∷ [])
   -- the verdicts as codes, with room enough
   pub good_a : core_said 0 (set_a 10) 5 ≡ C.Good

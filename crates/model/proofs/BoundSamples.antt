@@ -12,18 +12,18 @@ use Rattle.model.specs.Bounds.{demand, window, jobs, preemptive_end, start, end_
 use Rattle.model.specs.Bounds.{above, highest, judged_by, core_verdict, passes, no_window}
 use Rattle.model.specs.BoundSamples.{BoundSamples, most, one, d1, d2, full, printed_start, printed_end}
 use Rattle.model.proofs.Demand.{window-from-cost, end_from-own}
-use Rattle.model.proofs.Least.{least_never}
+use Rattle.model.proofs.Least.{least_is, least_never}
 use Rattle.model.proofs.Rounding.{before_is, before_pos, up_one}
 
--- what computes on these samples: an answer that says `unfolding rows_opened` opens the right side of the equations
-unfoldable pub rows_opened : ℕ
+-- what computes on these samples: an answer that says `unfolding rows` opens the right side of the equations
+rows : ℕ
 unfolding sum cost part parts_before parts keep total largest limit cooperative preemptive higher lower blocking demand
-rows_opened = 0
+rows = 0
 
 -- with it the rounding and the search
-unfoldable pub sides_opened : ℕ
-unfolding rows_opened up down before through least scan
-sides_opened = 0
+sides : ℕ
+unfolding rows up down before through least scan
+sides = 0
 
 -- the verdict
 verdicts : ℕ
@@ -32,17 +32,17 @@ verdicts = 0
 
 -- all of it
 all : ℕ
-unfolding sides_opened verdicts window value jobs preemptive_end start end_from finish max_below response bound meets_deadline printed_start printed_end
+unfolding sides verdicts window value jobs preemptive_end start end_from finish max_below response bound meets_deadline printed_start printed_end
 all = 0
 
 -- the row at the limit
 window_c : window (one 16777215) (most 16777215) ≡ At 16777215
-unfolding sides_opened
+unfolding sides
 window_c = window-from-cost (one 16777215) (most 16777215) (lit< tt) (lit< tt) ∙ refl
 
 -- its end
 end_c : preemptive_end (one 16777215) (most 16777215) 0 0 ≡ At 16777215
-unfolding sides_opened
+unfolding sides
 end_c = end_from-own (one 16777215) (most 16777215) 0 0 (lit< tt) ∙ refl
 
 -- its bound
@@ -56,8 +56,8 @@ unfolding parts meets_deadline verdicts
 good_c = rw (window_c, bound_c)
 
 -- and over it
-pub window_o : window (one 16777214) (most 16777214) ≡ Nothing
-unfolding sides_opened
+window_o : window (one 16777214) (most 16777214) ≡ Nothing
+unfolding sides
 window_o = window-from-cost (one 16777214) (most 16777214) (lit< tt) (lit< tt) ∙ refl
 
 -- its verdict
@@ -66,13 +66,15 @@ unfolding verdicts
 over_c = rw window_o
 
 -- the upper of two rows that ask for more than every tick
-pub window_d1 : window full d1 ≡ At 1
-unfolding sides_opened window
-window_d1 = refl
+window_d1 : window full d1 ≡ At 1
+unfolding sides window
+window_d1 =
+    least_is (demand full d1) 1 limit (At 1)
+    (record { above = omega arith; within = omega arith; solves = refl; first = λ z a b e. omega arith })
 
 -- the lower of them
-pub window_d2 : window full d2 ≡ Nothing
-unfolding rows_opened window
+window_d2 : window full d2 ≡ Nothing
+unfolding rows window
 window_d2 = least_never _ 1 limit (λ z a. omega (arith, before_is d1 z, up_one z, before_pos d2 (lit< tt) z a))
 
 -- the verdict names the lower

@@ -7,13 +7,10 @@ pub mod Parts
 pub mod Blocking
 pub mod Demand
 pub mod Exists
-pub mod RowRounds
 pub mod Responses
 pub mod Verdict
 pub mod Windows
-pub mod CoreRounds
 pub mod BoundSamples
-pub mod RoundSamples
 pub mod Released
 pub mod Periodic
 pub mod Computed

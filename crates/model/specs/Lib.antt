@@ -3,9 +3,7 @@ pub mod Rows
 pub mod Least
 pub mod Bounds
 pub mod Verdict
-pub mod Rounds
 pub mod BoundSamples
-pub mod RoundSamples
 pub mod Machine
 pub mod MachineSample
 pub mod BegunSample

@@ -71,7 +71,7 @@ bounds-listed = 0
 
 -- the answer and the room
 unfoldable pub answer_given : ℕ
-unfolding core_said_lem bounds-listed analysis.file_said analysis.file_rows analysis.writes analysis.after_search analysis.answered analysis.room_after
+unfolding core_said_lem bounds-listed analysis.file_said analysis.file_rows analysis.writes analysis.answered analysis.room_after
 answer_given = 0
 
 -- lines of text

@@ -1,5 +1,5 @@
 -- The faults of a table and of a number are verdicts that reading a file gives. Assumes nothing.
-use Prim.Native.Nat.{ℕ, suc, ◌+◌, ◌≤◌}
+use Prim.Native.Nat.{ℕ, suc, ◌+◌}
 use mathlib.Core.Path.{◌≡◌, refl}
 use mathlib.Core.Bool.{Bool, true, false, ◌||◌}
 use mathlib.Core.List.{List, [], ◌∷◌}
@@ -89,11 +89,11 @@ pub record RefusedReading (v : Verdict) : Type 0 where
 pub refused-not_0 : (v : Verdict) → RefusedReading v → code_of v ≡ 0 → ⊥
 refused-not_0 v r e = never (is_good v e) r.fault
 
--- nor one of those that a core is given
-pub refused-not-core : (v : Verdict) → RefusedReading v → (k : ℕ) → 9 ≤ k → k ≤ 12 → code_of v ≡ k → ⊥
-refused-not-core v r k low high = by v r.read
+-- nor 12
+pub refused-not_12 : (v : Verdict) → RefusedReading v → code_of v ≡ 12 → ⊥
+refused-not_12 v r = by v r.read
   where
-    by : (w : Verdict) → reading w ≡ true → code_of w ≡ k → ⊥
+    by : (w : Verdict) → reading w ≡ true → code_of w ≡ 12 → ⊥
     by Good q e = omega arith
     by (EndsEarly n) q e = omega arith
     by (Malformed n) q e = omega arith
@@ -103,9 +103,9 @@ refused-not-core v r k low high = by v r.read
     by (KindsCrossed n) q e = omega arith
     by (TooManyTimes n) q e = omega arith
     by (Trailing n) q e = omega arith
-    by (NoSuchCore n) q e = never q refl
-    by (NoRoom n) q e = never q refl
-    by (NoWindow n) q e = never q refl
+    by (NoSuchCore n) q e = omega arith
+    by (NoRoom n) q e = omega arith
+    by (NoWindow n) q e = omega arith
     by (Missed n) q e = never q refl
     by (UnknownStep n) q e = omega arith
     by (BadText n) q e = omega arith

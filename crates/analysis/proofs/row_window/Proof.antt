@@ -1,17 +1,16 @@
 -- `analysis::row_window` meets its contract: the blocking, the rows of the sum, and one search. Assumes nothing.
-use Prim.Native.Nat.{ℕ, ◌≤◌}
+use Prim.Native.Nat.{◌≤◌}
 use native.Mathlib.Omega.{arith}
 use borrow.Author.Rules.{rules}
 use mathlib.Core.Path.{◌≡◌, sym, ap, ap₂, ◌∙◌}
 use lib.ListN.{length, take, get_or}
 use lib.Seq.{length-take-le}
 use Rattle.model.specs.Least.{value}
-use Rattle.model.proofs.RowRounds.{row_rounds-most}
+use Rattle.bounds.specs.declared.Answer.{Answer}
 use Rattle.bounds.specs.Loads.{searched}
 use Rattle.cores.specs.Promises.{own_first}
-use Rattle.analysis.specs.declared.Windowed.{Windowed}
-use Rattle.analysis.specs.Promises.{windowed_by, window_in}
-use Rattle.analysis.proofs.Cored.{own_in, own_below, own_fit, window_may, window_in_lem}
+use Rattle.analysis.specs.Promises.{window_in}
+use Rattle.analysis.proofs.Cored.{own_below, own_fit, window_may, window_in_lem}
 use Rattle.analysis.proofs.Lengths.{length_small}
 use Rattle.cores.proofs.Fronts.{front_is, front_fits}
 use Rattle.analysis.proofs.row_window.Statement.{statement}
@@ -31,16 +30,18 @@ front : (c : tie.After-own-first)
     ≡ own_first (take (entry c).args.count (entry c).args.asked) (entry c).args.own
 front c = front_is c.own_first.ensures
 
--- what the search answers
-answered : (c : tie.After-window-of)
-    → windowed_by c.window-of.result
-    ≡ window_in (take (entry c.before.before.before).args.count (entry c.before.before.before).args.asked)
-    (entry c.before.before.before).args.own
+-- what the search found
+answered : (c : tie.After-value-of)
+    → c.value_of_lem.result
+    ≡ window_in (take c.before.before.before.before.before.before.before.args.count
+    c.before.before.before.before.before.before.before.args.asked)
+    c.before.before.before.before.before.before.before.args.own
 unfolding window_in
 answered c =
-    let first = c.before.before.before in
-    ap windowed_by
-    (c.window-of.ensures
+    let first = c.before.before.before.before in
+    c.value_of_lem.ensures
+    ∙ ap (λ (a : Answer). value a.found)
+    (c.before.window-of.ensures
     ∙ ap₂ (λ l b. searched l b (get_or l 1 0)) (front first) first.before.before.blocking-of.ensures)
 
 blocking-of-requires : tie.Need-blocking-of-requires
@@ -54,19 +55,13 @@ window-of-requires c κs =
     let first = c.before.before in
     window_may first.before.before.before.requires (front first) first.before.before.blocking-of.ensures
 
--- both fit 32 bits
-worked : (c : tie.After-window-of) → (value c.window-of.result.found ≤ 16777215) × (c.window-of.result.rounds ≤ 16777215)
-worked c =
-    let at = (entry c.before.before.before).requires in
-    let is = answered c ∙ window_in_lem at in (
-      omega (arith, ap (λ (w : Windowed). w.length) is, length_small at.rows at.t),
-      omega (arith, ap (λ (w : Windowed). w.rounds) is, row_rounds-most at.rows at.good at.t (own_in at)),
-    )
+cast-result : tie.Need-overflow-cast-result
+cast-result c =
+    let at = c.before.before.before.before.before.before.before.requires in
+    omega (arith, answered c ∙ window_in_lem at, length_small at.rows at.t)
 
 returns : tie.Need-returns
-returns c =
-    let took : ℕ = c.before.before.window-of.result.rounds in
-    ap (λ (n : ℕ). record { length = n; rounds = took }) c.before.value_of_lem.ensures ∙ answered c.before.before
+returns c = answered c
 
 pub row_window_spec : {M : Type 1} → statement M
 row_window_spec =
@@ -79,6 +74,5 @@ row_window_spec =
     (λ c. sym (length-take-le _ _ (fit c.before.before)))
     window-of-requires
     (λ c κs. search rules)
-    (λ c. omega (arith, c.value_of_lem.ensures, (worked c.before).0))
-    (λ c. omega (arith, (worked c.before.before).1))
+    cast-result
     returns)

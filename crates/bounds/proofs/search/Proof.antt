@@ -5,8 +5,7 @@ use mathlib.Core.List.{List}
 use native.Mathlib.Omega.{arith}
 use Rattle.bounds.specs.declared.Answer.{Answer}
 use Rattle.bounds.specs.Loads.{side, searched}
-use Rattle.model.specs.Least.{least, Under}
-use Rattle.model.specs.Rounds.{rounds_from}
+use Rattle.model.specs.Least.{least, rounds, Under}
 use Rattle.model.proofs.Climb.{under-start, under-step, under-found, under_past}
 use Rattle.model.proofs.Rounds.{Counted, counted_start, counted_past, counted_repeat, counted_more}
 use Rattle.bounds.proofs.Sides.{work-fits, side_mono}
@@ -15,7 +14,7 @@ use Rattle.bounds.proofs.search.Tie as tie
 
 -- an answer with both parts right
 answer_is : (rows : List ℕ) (base from : ℕ) (a : Answer) → a.found ≡ least (side rows base) from 16777215
-    → a.rounds ≡ rounds_from (side rows base) 16777215 from → a ≡ searched rows base from
+    → a.rounds ≡ rounds (side rows base) 16777215 16777216 from → a ≡ searched rows base from
 unfolding searched
 answer_is rows base from a p q = ap₂ (λ f n. record { found = f; rounds = n }) p q
 
@@ -53,7 +52,7 @@ returns c =
     let i = c.before.before.before.loop.invariant in
     answer_is _ _ _ _
     (sym (under-found _ _ 16777215 _ i.0 q c.before.before.loop-test.true))
-    (omega (arith, counted_repeat _ 16777215 _ _ _ i.1 c.before.before.loop-test.true q))
+    (counted_repeat _ 16777215 _ _ _ i.1 c.before.before.loop-test.true q)
 
 loop-again : tie.Need-loop-preserved invariant-loop decreases-loop
 loop-again c =
