@@ -1,4 +1,6 @@
 // A row's window and the bounds of its parts, by searches over rows whose period and cost stand side by side in one slice.
+#![tactic(auto)]
+
 ghost use Rattle.std.specs.Prelude.{◌≡◌, ◌≤◌, ◌<◌, ◌^◌, length, get_or, replicate, true};
 ghost use Rattle.model.specs.Least.{value};
 ghost use Rattle.bounds.specs.Loads.{Summable, work_at, side, searched};
@@ -122,7 +124,7 @@ fn part_end(
 }
 
 // What stands before a job, where its first search may begin, and when it was released.
-#[derive(Drop)]
+#[derive(Clone, Copy)]
 pub struct Job {
     pub base: u64,
     pub from: u64,

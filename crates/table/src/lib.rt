@@ -1,4 +1,6 @@
 // The task table in memory, the verdicts with their codes and numbers, and what can stand against a table: its own faults and clashes.
+#![tactic(auto)]
+
 ghost use Rattle.std.specs.Prelude.{◌≡◌, [], ◌≤◌, min, length, take, drop, replicate};
 ghost use Rattle.table.specs.Verdicts.{code_of, number_of};
 ghost use Rattle.table.specs.Fields.{head, time, want, wanted, LowsHighs, judge, fault_in, fields_of, row_from};
@@ -9,7 +11,7 @@ ghost use Rattle.table.specs.Written.{none_written};
 ghost use Rattle.table.specs.Faults.{row_fault, rows_fault, fault_of};
 
 // One row of the table; its times stand apart.
-#[derive(Drop)]
+#[derive(Clone, Copy)]
 pub struct Row {
     pub id: u32,
     pub core: u32,
@@ -21,7 +23,7 @@ pub struct Row {
 }
 
 // The table: `count` rows are used, and their times stand one after another.
-#[derive(Drop)]
+#[derive(Clone, Copy)]
 pub struct Table {
     pub count: usize,
     pub rows: [Row; 64],
@@ -29,7 +31,7 @@ pub struct Table {
 }
 
 // What is said of a file, a core, a table, a text or a chain: the documents' codes, each with the number it carries.
-#[derive(Drop)]
+#[derive(Clone, Copy)]
 pub enum Verdict {
     Good,
     EndsEarly(usize),
@@ -56,7 +58,7 @@ pub struct Written {
 }
 
 // The rules over two rows: codes 4, 5 and 6.
-#[derive(Drop)]
+#[derive(Clone, Copy)]
 pub enum Rule {
     SameId,
     SamePriority,
@@ -71,7 +73,7 @@ struct Firsts {
 }
 
 // What is kept of a core's rows: the lowest preemptive and the highest cooperative priority.
-#[derive(Drop)]
+#[derive(Clone, Copy)]
 struct Marks {
     lowest: u32,
     highest: u32,

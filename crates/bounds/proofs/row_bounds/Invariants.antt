@@ -1,0 +1,29 @@
+-- `bounds::row_bounds` meets its contract: after j jobs the bounds are those over j jobs, and job j stands before its first part.
+use Prim.Native.Nat.{ℕ, suc, ◌+◌, ◌-◌, ◌≤◌, ◌<◌}
+use mathlib.Core.Path.{◌≡◌, refl, sym, ap, subst, ◌∙◌}
+use mathlib.Core.List.{List}
+use native.Mathlib.Nat.{le_antisymm}
+use native.Mathlib.Omega.{arith}
+use borrow.Author.Rules.{rules}
+use lib.ListN.{length, get_or, take, drop, replicate, length-drop}
+use lib.Seq.{take_all}
+use Rattle.model.specs.Bounds.{up}
+use Rattle.bounds.specs.declared.Job.{Job}
+use Rattle.bounds.specs.declared.Own.{Own}
+use Rattle.bounds.specs.Promises.{OwnRow, AtJob, JobLeft, job_at, bounds_after, bounds_in}
+use Rattle.bounds.proofs.AllJobs.{after-length, has_own, period_range, window_small}
+use Rattle.bounds.proofs.AllJobs.{at-job, base_small, job_in_window, jobs_past_window}
+use Rattle.bounds.proofs.row_bounds.Given as goal
+
+-- j jobs are done
+pub record JobsDone (own_first preempts : List ℕ) (own : Own) (times bounds : List ℕ) (job : Job) : Type 0 where
+  pub j : ℕ
+  pub few : j ≤ up own.window (get_or own_first 0 0)
+  pub stands : job ≡ job_at own_first preempts own times j
+  pub largest : bounds ≡ bounds_after own_first preempts own times j
+
+abbrev pub invariant-loop-job : goal.invariant-loop-job
+invariant-loop-job l = JobsDone l.loads l.preemptive l.own l.times l.bounds l.job
+
+abbrev pub decreases-loop-job : goal.decreases-loop-job
+decreases-loop-job l = l.own.window - l.job.release

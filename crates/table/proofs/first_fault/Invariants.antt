@@ -1,0 +1,25 @@
+-- `table::first_fault` meets its contract. The invariant: there is no fault before place i. Assumes nothing.
+use Prim.Native.Nat.{ℕ, ◌+◌, ◌-◌, ◌≤◌, ◌<◌}
+use native.Mathlib.Omega.{arith}
+use borrow.Author.Rules.{rules}
+use mathlib.Core.Path.{◌≡◌, refl, sym, ◌∙◌}
+use mathlib.Core.List.{List}
+use lib.ListN.{length, get_or, drop}
+use Rattle.table.specs.declared.Verdict.{Verdict}
+use Rattle.table.specs.declared.Verdict.TheVariants.{Good}
+use Rattle.table.specs.Verdicts.{code_of, ◌or_else◌}
+use Rattle.table.specs.Fields.{field, wanted, LowsHighs, judge, fault_in}
+use Rattle.table.proofs.Codes.{fault_stays, next_decides}
+use Rattle.table.proofs.FieldRanges.{wanted_more, fault_more, fault_none}
+use Rattle.table.proofs.first_fault.Given as goal
+
+pub record Passing (ns low high : List ℕ) (carried i : ℕ) : Type 0 where
+  pub ranges : LowsHighs (length ns) low high
+  pub upto : i ≤ length ns
+  pub same : fault_in (wanted low high) carried ns ≡ fault_in (drop i (wanted low high)) carried (drop i ns)
+
+abbrev pub invariant-loop-i : goal.invariant-loop-i
+invariant-loop-i l = Passing l.numbers l.low l.high l.carried l.i
+
+abbrev pub decreases-loop-i : goal.decreases-loop-i
+decreases-loop-i l = length l.numbers - l.i
