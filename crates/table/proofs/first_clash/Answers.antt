@@ -41,7 +41,7 @@ nowhere {n} {i} l h = let last : i ≡ n = omega (arith, l.upto) in last ∙ loo
 
 pub rows-init : goal.rows-init
 rows-init c =
-    let rows = c.args.t1 in
+    let rows = c.args.rows in
     let long : length rows ≡ 64 = search (rules, length_mapped) in
     looking_start _ rows (omega arith)
 

@@ -56,7 +56,7 @@ module _ {t : Table} {used i : ℕ} (l : Looking t used i) where
 
 pub loop-i-init : goal.loop-i-init
 loop-i-init c =
-    let long : length c.args.t1.rows ≡ 64 = search (rules, length_mapped) in
+    let long : length c.args.t.rows ≡ 64 = search (rules, length_mapped) in
     record { few = omega (arith, c.requires); upto = search rules; room = search rules; same = refl }
 
 pub returns-then-code_of-ne0 : goal.returns-then-code_of-ne0

@@ -4,17 +4,11 @@ use borrow.Author.Rules.{rules}
 use mathlib.Core.Path.{◌≡◌, sym}
 use mathlib.Core.List.{List}
 use lib.ListN.{length, get_or, get_or-eq_default}
-use Rattle.fields.proofs.byte_at.Statement.{statement}
-use Rattle.fields.proofs.byte_at.Tie as tie
+use Rattle.fields.proofs.byte_at.Goals as goal
 
 -- past the end
 past_end : (s : List ℕ) (at : ℕ) → length s ≤ at → 0 ≡ get_or s at 0
 past_end s at h = sym (get_or-eq_default s 0 h)
 
-pub byte_at_spec : {M : Type 1} → statement M
-byte_at_spec =
-    tie.close
-    (tie.spec
-    (λ c. search rules)
-    (λ c. search rules)
-    (λ c. past_end c.before.args.text.now c.before.args.at c.if1.false))
+pub returns : goal.returns
+returns c = past_end c.args.text.now c.args.at c.if-at-text.false

@@ -6,8 +6,7 @@ use mathlib.Core.Path.{◌≡◌}
 use Rattle.fields.specs.Promises.{digit_or}
 use Rattle.text.proofs.Numerals.{is_digit_lem}
 use Rattle.fields.proofs.Digits.{below_digits, above_digits}
-use Rattle.fields.proofs.digit_at.Statement.{statement}
-use Rattle.fields.proofs.digit_at.Tie as tie
+use Rattle.fields.proofs.digit_at.Goals as goal
 
 -- a digit
 digit : (b x : ℕ) → b ≡ x → 47 < b → b < 58 → b - 48 ≡ digit_or x
@@ -24,13 +23,11 @@ below : (b x : ℕ) → b ≡ x → b ≤ 47 → 10 ≡ digit_or x
 unfolding digit_or
 below b x e h = rw (← e, below_digits b (omega arith))
 
-pub digit_at_spec : {M : Type 1} → statement M
-digit_at_spec =
-    tie.close
-    (tie.spec
-    (λ c κs. search rules)
-    (λ c. search rules)
-    (λ c. search rules)
-    (λ c. digit _ _ c.before.before.byte_at.ensures c.before.if1.true c.if2.true)
-    (λ c. above _ _ c.before.before.byte_at.ensures c.if2.false)
-    (λ c. below _ _ c.before.byte_at.ensures c.if1.false))
+pub returns-then-b-lt58 : goal.returns-then-b-lt58
+returns-then-b-lt58 c = digit _ _ c.byte_at-b.ensures c.if-b-gt47.true c.if-b-lt58.true
+
+pub returns-else-b-lt58 : goal.returns-else-b-lt58
+returns-else-b-lt58 c = above _ _ c.byte_at-b.ensures c.if-b-lt58.false
+
+pub returns-else-b-gt47 : goal.returns-else-b-gt47
+returns-else-b-gt47 c = below _ _ c.byte_at-b.ensures c.if-b-gt47.false

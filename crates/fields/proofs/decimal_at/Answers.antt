@@ -1,0 +1,25 @@
+-- `fields::decimal_at` meets its contract: digit by digit. Assumes nothing.
+use Prim.Native.Nat.{◌-◌}
+use native.Mathlib.Omega.{arith}
+use borrow.Author.Rules.{rules}
+use lib.ListN.{length}
+use Rattle.fields.proofs.Scanned.{Scanning, starts, inside, turn, some, ends_none, ends_zero, ends_got}
+use Rattle.fields.proofs.decimal_at.Goals as goal
+
+pub loop-digit-init : goal.loop-digit-init
+loop-digit-init c = starts _ _ _ c.digit_at-digit.ensures
+
+pub with_digit-value-requires : goal.with_digit-value-requires
+with_digit-value-requires c = omega (arith, c.loop-digit.invariant.number, c.loop-digit-test.true)
+
+pub overflow_add-p : goal.overflow_add-p
+overflow_add-p c = omega (arith, inside c.loop-digit.invariant c.loop-digit-test.true)
+
+pub loop-digit-smaller : goal.loop-digit-smaller
+loop-digit-smaller c = omega (arith, inside c.loop-digit.invariant c.loop-digit-test.true)
+
+pub returns-then-p-at : goal.returns-then-p-at
+returns-then-p-at c = ends_none c.loop-digit.invariant c.loop-digit-test.false c.if-p-at.true
+
+pub overflow_add-at : goal.overflow_add-at
+overflow_add-at c = let k = c.loop-digit.invariant in omega (arith, k.within (some k c.if-p-at.false), some k c.if-p-at.false)

@@ -1,0 +1,15 @@
+-- `fields::ending_at` meets its contract: each return is one case of `ending_at`. Assumes nothing.
+use Prim.Native.Nat.{◌+◌}
+use native.Mathlib.Omega.{arith}
+use borrow.Author.Rules.{rules}
+use mathlib.Core.Path.{sym, ap, ◌∙◌}
+use Rattle.lists.proofs.Drops.{some_within}
+use Rattle.fields.specs.Promises.{as_ended}
+use Rattle.fields.proofs.Valued.{at-text-end, at-comma, at_other, at_return, at-line_end}
+use Rattle.fields.proofs.ending_at.Goals as goal
+
+pub returns-then-text-at : goal.returns-then-text-at
+returns-then-text-at c = ap as_ended (sym (at-text-end _ _ c.if-text-at.true))
+
+pub returns-then-text-at-eq44 : goal.returns-then-text-at-eq44
+returns-then-text-at-eq44 c = ap as_ended (sym (at-comma _ _ c.if-text-at.false c.if-text-at-eq44.true))

@@ -1,0 +1,9 @@
+-- `fields::read_number` meets its contract: each way has its own. Assumes nothing.
+use borrow.Author.Rules.{rules}
+use Rattle.fields.proofs.read_number.Goals as goal
+
+pub returns-in-Seven : goal.returns-in-Seven
+returns-in-Seven c = rw c.enum_told-1.given.1 c.read_field.ensures
+
+pub returns-in-Commas : goal.returns-in-Commas
+returns-in-Commas c = rw c.enum_told-in-Commas-1.given.1 c.read_text_field.ensures
