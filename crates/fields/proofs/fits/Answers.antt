@@ -4,10 +4,13 @@ use Rattle.fields.specs.TextFields.{fits}
 use Rattle.fields.proofs.fits.Goals as goal
 
 pub returns-in-Comma : goal.returns-in-Comma
-returns-in-Comma c = rw c.enum_told-1.given.1
+unfolding fits
+returns-in-Comma c = rw c.in-Comma.is
 
 pub returns-in-Line : goal.returns-in-Line
-returns-in-Line c = rw c.enum_told-in-Line-1.given.1
+unfolding fits
+returns-in-Line c = rw c.in-Line.is
 
 pub returns-in-Text : goal.returns-in-Text
-returns-in-Text c = rw c.enum_told-in-Text-1.given.1
+unfolding fits
+returns-in-Text c = rw c.in-Text.is

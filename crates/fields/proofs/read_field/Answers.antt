@@ -20,20 +20,20 @@ pub returns-then-code_of-ne0 : goal.returns-then-code_of-ne0
 unfolding asked
 returns-then-code_of-ne0 c =
     ap as_field (sym (unless-fault c.number_fault-v.ensures c.code_of.ensures _ _ c.if-code_of-ne0.true)
-    ∙ read _ c.args.bytes.now c.args.at _ (sym c.value-1.given.1 ∙ c.number_at.ensures))
+    ∙ read _ c.args.bytes.now c.args.at _ (c.in-Got.ensures))
 
 pub returns-else-code_of-ne0 : goal.returns-else-code_of-ne0
 unfolding asked
 returns-else-code_of-ne0 c =
     ap as_field (sym (unless-good c.number_fault-v.ensures c.code_of.ensures _ _ c.if-code_of-ne0.false)
-    ∙ read _ c.args.bytes.now c.args.at _ (sym c.value-1.given.1 ∙ c.number_at.ensures))
+    ∙ read _ c.args.bytes.now c.args.at _ (c.in-Got.ensures))
 
 pub returns-in-EndsEarly : goal.returns-in-EndsEarly
 unfolding asked
 returns-in-EndsEarly c =
-    ap as_field (read _ c.args.bytes.now c.args.at _ (sym c.enum_told-1.given.1 ∙ c.number_at.ensures))
+    ap as_field (read _ c.args.bytes.now c.args.at _ (c.in-EndsEarly.ensures))
 
 pub returns-in-Malformed : goal.returns-in-Malformed
 unfolding asked
 returns-in-Malformed c =
-    ap as_field (read _ c.args.bytes.now c.args.at _ (sym c.enum_told-in-Malformed-1.given.1 ∙ c.number_at.ensures))
+    ap as_field (read _ c.args.bytes.now c.args.at _ (c.in-Malformed.ensures))

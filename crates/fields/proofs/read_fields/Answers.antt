@@ -11,11 +11,11 @@ use Rattle.fields.proofs.read_fields.Goals as goal
 
 pub returns-in-Refused : goal.returns-in-Refused
 returns-in-Refused c =
-    halts c.loop-i.invariant c.loop-i-test.true _ (refused-field _ _ (sym c.v-1.given.1 ∙ c.read_number.ensures))
+    halts c.loop-i.invariant c.loop-i-test.true _ (refused-field _ _ (c.in-Refused.ensures))
 
 pub loop-i-preserved : goal.loop-i-preserved
 loop-i-preserved c =
-    turn c.loop-i.invariant c.loop-i-test.true _ _ (got_field _ _ _ (sym c.value-1.given.1 ∙ c.read_number.ensures))
+    turn c.loop-i.invariant c.loop-i-test.true _ _ (got_field _ _ _ (c.in-Got.ensures))
 
 pub loop-i-init : goal.loop-i-init
 loop-i-init c = starts _ _ _ _ _ c.requires.0

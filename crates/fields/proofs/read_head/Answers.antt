@@ -20,21 +20,21 @@ unfolding lows highs
 returns-in-Refused c =
     let a = c.args in
     let read = c.read_fields in
-    plain_stops (in_way a.way a.bytes.now) a.used a.at _ (rw c.v-1.given.1 at read.ensures)
+    plain_stops (in_way a.way a.bytes.now) a.used a.at _ (rw c.in-Refused.is at read.ensures)
 
 pub returns-in-Refused-read_number : goal.returns-in-Refused-read_number
 unfolding lows highs
 returns-in-Refused-read_number c =
     let a = c.args in
     let read = c.read_fields in
-    count_stops (in_way a.way a.bytes.now) a.used a.at (rw c.p-1.given.1 at read.ensures) _
-    (refused-field _ _ (sym c.v-in-Refused-read_number-1.given.1 ∙ c.read_number.ensures))
+    count_stops (in_way a.way a.bytes.now) a.used a.at (rw c.in-At.is at read.ensures) _
+    (refused-field _ _ (c.in-Refused-read_number.ensures))
 
 pub returns-in-Got : goal.returns-in-Got
 unfolding lows highs
 returns-in-Got c =
     let a = c.args in
     let read = c.read_fields in
-    ap (λ (row : Row). H.Got row c.value-1.given.0.1.0) c.row_of.ensures
-    ∙ seven_read (in_way a.way a.bytes.now) a.used a.at (rw c.p-1.given.1 at read.ensures) _ _
-    (got_field _ _ _ (sym c.value-1.given.1 ∙ c.read_number.ensures))
+    ap (λ (row : Row). H.Got row c.in-Got.next) c.row_of.ensures
+    ∙ seven_read (in_way a.way a.bytes.now) a.used a.at (rw c.in-At.is at read.ensures) _ _
+    (got_field _ _ _ (c.in-Got.ensures))

@@ -3,7 +3,7 @@ use borrow.Author.Rules.{rules}
 use Rattle.fields.proofs.read_last.Goals as goal
 
 pub returns-in-Seven : goal.returns-in-Seven
-returns-in-Seven c = rw c.enum_told-1.given.1 c.read_field.ensures
+returns-in-Seven c = rw c.in-Seven.is c.read_field.ensures
 
 pub returns-in-Commas : goal.returns-in-Commas
-returns-in-Commas c = rw c.enum_told-in-Commas-1.given.1 c.read_text_field.ensures
+returns-in-Commas c = rw c.in-Commas.is c.read_text_field.ensures
