@@ -27,7 +27,7 @@ returns-then-cooperative c = rw c.if-cooperative.true c.cooperative_end.ensures
 pub search-requires : goal.search-requires
 search-requires c =
     let a = c.requires in
-    (highers_summed a, (omega (arith, sums_small a), begins a _))
+    record { summable = highers_summed a; base_bound = omega (arith, sums_small a); from_bound = begins a _ }
 
 pub returns : goal.returns
 returns c =

@@ -39,7 +39,7 @@ overflow_add-y c =
     omega (
       arith,
       c.work.ensures,
-      work-fits c.args.loads.now c.loop-x.x c.requires.summable (work-requires (goal.at.overflow_add-y c).In-loop-x c.lifetimes).1,
+      work-fits c.args.loads.now c.loop-x.x c.requires.summable (omega (arith, c.loop-x-test.true)),
     )
 
 pub returns-then-y-x : goal.returns-then-y-x

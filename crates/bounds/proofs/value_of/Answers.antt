@@ -6,8 +6,8 @@ use Rattle.bounds.proofs.value_of.Goals as goal
 
 pub returns-in-At : goal.returns-in-At
 unfolding value
-returns-in-At c = sym (ap value c.found-1.given.1)
+returns-in-At c = sym (ap value c.in-At.is)
 
 pub returns-in-Nothing : goal.returns-in-Nothing
 unfolding value
-returns-in-Nothing c = sym (ap value c.enum_told-1.given.1)
+returns-in-Nothing c = sym (ap value c.in-Nothing.is)
