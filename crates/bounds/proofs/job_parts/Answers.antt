@@ -5,9 +5,8 @@ use mathlib.Core.Bool.{Bool}
 use mathlib.Core.List.{List}
 use native.Mathlib.Numerals.{add-one}
 use native.Mathlib.Omega.{arith}
-use borrow.Author.Rules.{rules}
 use lib.ListN.{length, get_or, set}
-use Rattle.lists.specs.Lists.{sum, listed, over}
+use Rattle.lists.specs.Lists.{sum, listed}
 use Rattle.lists.proofs.Sums.{sum-suc}
 use Rattle.lists.proofs.Listed.{listed-length}
 use Rattle.lists.proofs.Overs.{over_none, over-length}

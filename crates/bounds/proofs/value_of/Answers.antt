@@ -1,6 +1,5 @@
 -- `bounds::value_of` meets its contract, case by case.
 use mathlib.Core.Path.{sym, ap}
-use borrow.Author.Rules.{rules}
 use Rattle.model.specs.Least.{value}
 use Rattle.bounds.proofs.value_of.Goals as goal
 

@@ -1,5 +1,4 @@
 -- `bounds::window_of` meets its contract: it is one search, begun at the row's C.
-use native.Mathlib.Omega.{arith}
 use Rattle.bounds.proofs.Sides.{own_begins}
 use Rattle.bounds.proofs.window_of.Goals as goal
 
@@ -17,4 +16,3 @@ returns c = c.search.ensures
 
 pub bounds-loads-1 : goal.bounds-loads-1
 bounds-loads-1 c = (own_begins _ c.requires.summable c.requires.loads_nonzero 0).0
-
