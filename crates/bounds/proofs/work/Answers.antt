@@ -49,7 +49,8 @@ pub overflow_mul-sum : goal.overflow_mul-sum
 overflow_mul-sum c = omega (arith, (turn (goal.at.overflow_mul-sum c).In-loop-i).same, fits (goal.at.overflow_mul-sum c).Start)
 
 pub overflow_add-sum-in-loop-i : goal.overflow_add-sum-in-loop-i
-overflow_add-sum-in-loop-i c = omega (arith, (turn (goal.at.overflow_add-sum-in-loop-i c).In-loop-i).same, fits (goal.at.overflow_add-sum-in-loop-i c).Start)
+overflow_add-sum-in-loop-i c =
+    omega (arith, (turn (goal.at.overflow_add-sum-in-loop-i c).In-loop-i).same, fits (goal.at.overflow_add-sum-in-loop-i c).Start)
 
 pub overflow_add-i : goal.overflow_add-i
 overflow_add-i c = omega (arith, (turn (goal.at.overflow_add-i c).In-loop-i).whole)
