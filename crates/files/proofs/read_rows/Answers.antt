@@ -23,15 +23,9 @@ use Rattle.fields.proofs.RowLaid.{laid_row}
 use Rattle.files.specs.Reading.{row_at, rows_at}
 use Rattle.files.specs.Promises.{as_body}
 use Rattle.files.proofs.Steps.{rows_more, rows_stop}
-use Rattle.files.proofs.read_rows.Statement.{statement}
-use Rattle.files.proofs.read_rows.Tie as tie
-
-record Loading (s : List ℕ) (at n : ℕ) (rows : List Row) (times : List ℕ) (p used i : ℕ) : Type 0 where
-  done : List Task
-  laid : Laid done rows times i used
-  upto : i ≤ n
-  room : used ≤ 1024
-  same : rows_at n [] s at ≡ rows_at (n - i) done s p
+use Rattle.files.proofs.read_rows.Invariants.{Loading}
+use Rattle.files.proofs.read_rows.Goals.{In-Got}
+use Rattle.files.proofs.read_rows.Goals as goal
 
 module _ {s : List ℕ} {at n : ℕ} {rows : List Row} {times : List ℕ} {p used i : ℕ} (l : Loading s at n rows times p used i) where
   -- after the last row
@@ -69,65 +63,53 @@ module _ {s : List ℕ} {at n : ℕ} {rows : List Row} {times : List ℕ} {p use
           same = l.same ∙ rows_more (n - i) l.done s p (omega arith) r.task q (here r.read) ∙ rw left;
         }
 
-abbrev invariant-loop : tie.invariant-loop
-invariant-loop bytes at n rows₀ times₀ p₀ used₀ i₀ rows times p used i = Loading bytes at n rows times p used i
+-- the row that is read now
+stored_row : (c : In-Got) → let s = c.args.bytes.now in let l = c.loop-i in
+    RowStored (row_in Seven s l.used l.p) l.used l.times c.in-Got.row c.in-Got.next
+    c.read_row.new.1.1.1.1.0
+stored_row c = rw c.in-Got.is at c.read_row.ensures
 
-abbrev decreases-loop : tie.decreases-loop
-decreases-loop bytes at n rows₀ times₀ p₀ used₀ i₀ rows times p used i = n - i
+-- there is place for it
+below_64 : (c : In-Got) → c.loop-i.i < 64
+below_64 c = omega (arith, c.loop-i-test.true, c.requires)
 
-loop-holds : tie.Need-loop-init invariant-loop decreases-loop
+pub loop-i-init : goal.loop-i-init
 unfolding each
-loop-holds c =
+loop-i-init c =
     record {
       done = [];
-      laid = record { number = refl; total = refl; rows_are = rw c.row_of_lem.ensures; times_are = refl };
+      laid = record { number = refl; total = refl; rows_are = rw c.row_of-row0.ensures; times_are = refl };
       upto = search rules;
       room = search rules;
       same = rw sub-zero;
     }
 
--- the row that is read now
-stored_row : (c : tie.After-row invariant-loop decreases-loop) → let b = c.before.before.before.before.before.before in
-    let s = b.before.before.before.args.bytes.now in let l = b.loop in
-    RowStored (row_in Seven s l.used l.p) l.used l.times c.row.given.0.0 c.row.given.0.1.0
-    c.before.before.before.read-row.new.1.1.1.1.0
-stored_row c = rw c.row.given.1 at c.before.before.before.read-row.ensures
+pub returns-in-Refused : goal.returns-in-Refused
+returns-in-Refused c =
+    c.no_rows.ensures ∙ stops c.loop-i.invariant c.loop-i-test.true _
+    (rw c.in-Refused.is at c.read_row.ensures)
 
--- there is place for it
-below_64 : (c : tie.After-row invariant-loop decreases-loop) → c.before.before.before.before.before.before.loop.i < 64
-below_64 c = let b = c.before.before.before.before.before in omega (arith, b.loop-test.true, b.before.before.before.before.requires)
+pub loop-i-preserved : goal.loop-i-preserved
+loop-i-preserved c =
+    turn c.loop-i.invariant c.loop-i-test.true c.requires (stored_row (goal.at.loop-i-preserved c).In-Got)
 
-returns : tie.Need-returns invariant-loop decreases-loop
-returns c =
-    let read = c.before.before.before.before.before in
-    let test = read.before.before in
-    c.no_rows.ensures ∙ stops test.before.loop.invariant test.loop-test.true _
-    (rw c.before.before.v.given.1 at read.read-row.ensures)
+pub slice_bounds-read_row-end : goal.slice_bounds-read_row-end
+slice_bounds-read_row-end c = let l = c.loop-i.invariant in sym (times_long l.laid l.room)
 
-loop-again : tie.Need-loop-preserved invariant-loop decreases-loop
-loop-again c =
-    let row = c.before.before in
-    let test = row.before.before.before.before.before in
-    turn test.before.loop.invariant test.loop-test.true test.before.before.before.before.requires (stored_row row)
+pub read_row-requires : goal.read_row-requires
+read_row-requires c = let l = c.loop-i.invariant in (l.room, times_long l.laid l.room)
 
-pub read_rows_spec : {M : Type 1} → statement M
-read_rows_spec =
-    tie.close
-    (tie.spec
-    invariant-loop
-    decreases-loop
-    (λ c κs. search rules)
-    loop-holds
-    (λ c. let l = c.before.before.loop.invariant in sym (times_long l.laid l.room))
-    (λ c κs. let l = c.before.before.loop.invariant in (l.room, times_long l.laid l.room))
-    (λ c. search rules)
-    (λ c κs. search rules)
-    returns
-    (λ c. search rules)
-    (λ c. omega (arith, below_64 c.before))
-    (λ c. below_64 c.before)
-    (λ c. omega (arith, (stored_row c.before.before).room))
-    (λ c. omega (arith, below_64 c.before.before))
-    (λ c. omega arith)
-    loop-again
-    (λ c. ends c.before.loop.invariant c.loop-test.false))
+pub offset_bounds-rows-i : goal.offset_bounds-rows-i
+offset_bounds-rows-i c = omega (arith, below_64 (goal.at.offset_bounds-rows-i c).In-Got)
+
+pub bounds-rows-i : goal.bounds-rows-i
+bounds-rows-i c = below_64 (goal.at.bounds-rows-i c).In-Got
+
+pub overflow_add-used : goal.overflow_add-used
+overflow_add-used c = omega (arith, (stored_row (goal.at.overflow_add-used c).In-Got).room)
+
+pub overflow_add-i : goal.overflow_add-i
+overflow_add-i c = omega (arith, below_64 (goal.at.overflow_add-i c).In-Got)
+
+pub returns : goal.returns
+returns c = ends c.loop-i.invariant c.loop-i-test.false

@@ -19,15 +19,9 @@ use Rattle.cores.specs.declared.Which.{Which}
 use Rattle.cores.specs.Cores.{asked_nothing}
 use Rattle.cores.specs.Promises.{is_wanted, asked_load, wanted_loads, PutInFront}
 use Rattle.cores.proofs.Wanted.{wanted_yes, wanted_no}
-use Rattle.cores.proofs.put_loads.Statement.{statement}
-use Rattle.cores.proofs.put_loads.Tie as tie
-
--- `done` are the numbers so far, behind what stood in front of `at`
-record Putting (which : Which) (rows : List Asked) (at : ℕ) (old out : List ℕ) (end i : ℕ) : Type 0 where
-  done : List ℕ
-  all : wanted_loads which rows ≡ done ++ wanted_loads which (drop i rows)
-  fits : at + length (wanted_loads which rows) ≤ length old
-  put : PutInFront (take at old ++ done) old out end
+use Rattle.cores.proofs.put_loads.Invariants.{Putting}
+use Rattle.cores.proofs.put_loads.Goals.{In-loop-i, Then-is_wanted}
+use Rattle.cores.proofs.put_loads.Goals as goal
 
 module _ {which : Which} {rows : List Asked} {at : ℕ} {old out : List ℕ} {end i : ℕ} (p : Putting which rows at old out end i) where
   -- where the numbers so far end
@@ -89,78 +83,66 @@ module _ {which : Which} {rows : List Asked} {at : ℕ} {old out : List ℕ} {en
       let all : wanted_loads which rows ≡ p.done = p.all ∙ rw (drop_of_length-le rows h) (append-nil p.done) in
       rw all p.put
 
-abbrev invariant-loop : tie.invariant-loop
-invariant-loop count which at out₀ asked end₀ i₀ out end i = Putting which (take count asked) at out₀ out end i
-
-abbrev decreases-loop : tie.decreases-loop
-decreases-loop count which at out₀ asked end₀ i₀ out end i = count - i
-
 -- the row that is looked at is the next one
-next_row : (c : tie.In-loop invariant-loop decreases-loop) →
-    let s = c.before.before.before.args in
-    let i = c.before.loop.i in
-    drop i (take s.count s.t1) ≡ get_or s.t1 i asked_nothing ∷ drop (i + 1) (take s.count s.t1)
+next_row : (c : In-loop-i) →
+    let c.before.before.before = c.args in
+    let i = c.loop-i.i in
+    drop i (take c.count c.t1) ≡ get_or c.t1 i asked_nothing ∷ drop (i + 1) (take c.count c.t1)
 next_row c =
-    let s = c.before.before.before in
-    let long : length s.args.t1 ≡ 64 = search (rules, length_mapped) in
-    taken_more asked_nothing s.args.count s.args.t1 c.before.loop.i c.loop-test.true (omega arith)
+    let long : length c.args.t1 ≡ 64 = search (rules, length_mapped) in
+    taken_more asked_nothing c.args.count c.args.t1 c.loop-i.i c.loop-i-test.true (omega arith)
 
 -- two numbers have room, in the lent room as it was
-roomy : (c : tie.Then1 invariant-loop decreases-loop) →
-    let l = c.before.before.before.before in
-    (l.loop.end + 2 ≤ length l.loop.out) × (length l.loop.out ≡ length l.before.before.args.out.now)
+roomy : (c : Then-is_wanted) →
+    (c.loop-i.end + 2 ≤ length c.loop-i.out) × (length c.loop-i.out ≡ length c.args.out.now)
 roomy c =
-    let l = c.before.before.before in
-    let p = l.before.loop.invariant in
-    (room_for_two p (next_row l) (sym c.before.is-wanted.ensures ∙ c.if1.true), room-length p)
+    let p = c.loop-i.invariant in
+    (room_for_two p (next_row c.before.before.before) (sym c.is_wanted.ensures ∙ c.if-is_wanted.true), room-length p)
 
-loop-holds : tie.Need-loop-init invariant-loop decreases-loop
-loop-holds c =
-    let s = c.before in
-    let old = s.args.out.now in
-    let inside : s.args.at ≤ length old = omega (arith, s.requires.1) in
+pub loop-i-init : goal.loop-i-init
+loop-i-init c =
+    let old = c.args.out.now in
+    let inside : c.args.at ≤ length old = omega (arith, c.requires.asked_in_bounds) in
     record {
       done = [];
       all = refl;
-      fits = s.requires.1;
+      fits = c.requires.asked_in_bounds;
       put =
           rw append-nil (
-          record { room = sym (over-front s.args.at old inside); ends = sym (length-take-le s.args.at old inside) }
+          record { room = sym (over-front c.args.at old inside); ends = sym (length-take-le c.args.at old inside) }
           );
     }
 
-loop-again : tie.Need-loop-preserved invariant-loop decreases-loop
-loop-again c =
-    let l = c.before.before.before in
-    let p = l.before.loop.invariant in
+pub loop-i-preserved : goal.loop-i-preserved
+loop-i-preserved c =
+    let p = c.loop-i.invariant in
     ⊎_elim
-    (λ w. rw (w.1, w.2) (row_put p (next_row l) (sym c.before.is-wanted.ensures ∙ w.0.taken)))
-    (λ w. rw (w.1, w.2) (row_passed p (next_row l) (sym c.before.is-wanted.ensures ∙ w.0.left)))
-    c.if1.branch
+    (λ w. rw (w.1, w.2) (row_put p (next_row (goal.at.loop-i-preserved c).In-loop-i) (sym c.is_wanted.ensures ∙ w.0.taken)))
+    (λ w. rw (w.1, w.2) (row_passed p (next_row (goal.at.loop-i-preserved c).In-loop-i) (sym c.is_wanted.ensures ∙ w.0.left)))
+    c.if-is_wanted.branch
 
-returns : tie.Need-returns invariant-loop decreases-loop
+pub returns : goal.returns
 returns c =
-    let s = c.before.before.before.args in
-    ends c.before.loop.invariant (omega (arith, length-take s.count s.t1, c.loop-test.false))
+    let s = c.args in
+    ends c.loop-i.invariant (omega (arith, length-take s.count s.t1, c.loop-i-test.false))
 
-pub put_loads_spec : {M : Type 1} → statement M
-put_loads_spec =
-    tie.close
-    (tie.spec
-    invariant-loop
-    decreases-loop
-    loop-holds
-    (λ c. omega arith)
-    (λ c. omega arith)
-    (λ c κs. search rules)
-    (λ c. omega (arith, roomy c))
-    (λ c. omega (arith, roomy c))
-    (λ c. omega (arith, roomy c))
-    (λ c. omega (arith, roomy c))
-    (λ c. simp length-set (omega (arith, roomy c)))
-    (λ c. omega (arith, roomy c))
-    (λ c. omega arith)
-    (λ c. omega arith)
-    loop-again
-    (λ c. room-length c.before.loop.invariant)
-    returns)
+pub offset_bounds-out-end : goal.offset_bounds-out-end
+offset_bounds-out-end c = omega (arith, roomy c)
+
+pub bounds-out-end : goal.bounds-out-end
+bounds-out-end c = omega (arith, roomy c)
+
+pub overflow_add-out : goal.overflow_add-out
+overflow_add-out c = omega (arith, roomy c)
+
+pub offset_bounds-out-end-then-is_wanted : goal.offset_bounds-out-end-then-is_wanted
+offset_bounds-out-end-then-is_wanted c = omega (arith, roomy c)
+
+pub bounds-out-end-then-is_wanted : goal.bounds-out-end-then-is_wanted
+bounds-out-end-then-is_wanted c = simp length-set (omega (arith, roomy c))
+
+pub overflow_add-end : goal.overflow_add-end
+overflow_add-end c = omega (arith, roomy c)
+
+pub shape_of-out : goal.shape_of-out
+shape_of-out c = room-length c.loop-i.invariant

@@ -10,8 +10,7 @@ use Rattle.lists.proofs.Overs.{over-sets}
 use Rattle.lists.proofs.OverParts.{new_behind}
 use Rattle.table.specs.declared.Row.{Row}
 use Rattle.table.specs.Fields.{fields_of}
-use Rattle.files.proofs.put_row.Statement.{statement}
-use Rattle.files.proofs.put_row.Tie as tie
+use Rattle.files.proofs.put_row.Goals as goal
 
 -- the times are stored behind the fields
 both_put : (row : Row) (fields times out first part : List ℕ) → fields ≡ fields_of row → 7 + length times ≤ length out
@@ -22,23 +21,6 @@ both_put row fields times out first part own room one two =
     new_behind (fields_of row) out times first 7 front (omega arith) room part two
     ∙ sym (over-sets (fields_of row ++ times) out (rw length-append room))
 
-returns : tie.Need-returns
+pub returns : goal.returns
 returns c =
-    let c6 = c.before.before.before.before.before.before in
-    let c9 = c6.before.before.before in
-    let c12 = c9.before.before.before in
-    both_put _ _ c12.args.times.now _ _ _ c9.fields-of.ensures c12.requires c6.copy.ensures c.before.before.copy2.ensures
-
-pub put_row_spec : {M : Type 1} → statement M
-put_row_spec =
-    tie.close
-    (tie.spec
-    (λ c κs. search rules)
-    (λ c. search rules)
-    (λ c κs. search rules)
-    (λ c. search rules)
-    (λ c. search rules)
-    (λ c. search rules)
-    (λ c κs. search rules)
-    (λ c. search rules)
-    returns)
+    both_put _ _ c.args.times.now _ _ _ c.fields_of-fields.ensures c.requires c.copy.ensures c.copy-2.ensures

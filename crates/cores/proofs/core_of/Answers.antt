@@ -24,8 +24,9 @@ use Rattle.table.proofs.Ahead.{Ahead, lent, Next, next, none_ahead, good_ahead}
 use Rattle.cores.specs.declared.Asked.{Asked}
 use Rattle.cores.specs.Cores.{asked_of, asked_nothing, core_of}
 use Rattle.table.proofs.Stored.{times-count}
-use Rattle.cores.proofs.core_of.Statement.{statement}
-use Rattle.cores.proofs.core_of.Tie as tie
+use Rattle.cores.proofs.core_of.Invariants.{Keeping}
+use Rattle.cores.proofs.core_of.Goals.{After-times-then-row-core-1, In-loop-i, Start, Then-row-core}
+use Rattle.cores.proofs.core_of.Goals as goal
 
 -- a good task's times add up to a number that fits
 times-add : (u : Task) → GoodTask u → sum u.times ≤ 4294967295
@@ -40,17 +41,6 @@ asks_more : (mine : List Task) (asked : List Asked) (count : ℕ) (u : Task) (a 
 asks_more mine asked count u a asks number few e =
     let at-end : count ≡ length (map asked_of mine) = number ∙ sym (length-map mine asked_of) in
     rw (asks, at-end, e, map-append asked_of mine (u ∷ [])) (set-pad asked_nothing 64 (map asked_of mine) (asked_of u) (omega arith))
-
--- `mine` are the core's rows so far
-record Keeping (t : Table) (core : ℕ) (rows : List Row) (times : List ℕ) (asked : List Asked) (count kept used i : ℕ) : Type 0 where
-  mine : List Task
-  left : List Task
-  laid : Laid mine rows times count kept
-  asks : asked ≡ pad_to asked_nothing 64 (map asked_of mine)
-  ahead : Ahead t used i left
-  all : on_core core (tasks_of t) ≡ mine ++ on_core core left
-  fewer : count ≤ i
-  less : kept ≤ used
 
 module _ {t : Table} {core : ℕ} {rows : List Row} {times : List ℕ} {asked : List Asked} {count kept used i : ℕ}
     (k : Keeping t core rows times asked count kept used i) where
@@ -134,129 +124,142 @@ module _ {t : Table} {core : ℕ} {rows : List Row} {times : List ℕ} {asked : 
       = λ j. record { own = laid_stored k.laid j; parts = number j; asked = k.asks j } in
       whole ∙ sym (ap core_of mine)
 
-abbrev invariant-loop : tie.invariant-loop
-invariant-loop core t n from rows₀ times₀ asked₀ count₀ parts₀ used₀ i₀ rows times asked count parts used i =
-    Keeping t core rows times asked count parts used i
-
-abbrev decreases-loop : tie.decreases-loop
-decreases-loop core t n from rows₀ times₀ asked₀ count₀ parts₀ used₀ i₀ rows times asked count parts used i = t.count - i
-
 -- the function's entry, as the loop sees it, and the loop, as a row of the core sees it
-abbrev called : tie.In-loop invariant-loop decreases-loop → tie.Start invariant-loop decreases-loop
+abbrev called : In-loop-i → Start
 called c = c.before.before.before.before.before
 
-abbrev turn : tie.Then1 invariant-loop decreases-loop → tie.In-loop invariant-loop decreases-loop
+abbrev turn : Then-row-core → In-loop-i
 turn c = c.before.before.before.before
 
 -- the rows and times of a table in memory, by its type
-rows_there : (c : tie.Start invariant-loop decreases-loop) → length c.args.t1.rows ≡ 64
+rows_there : (c : Start) → length c.args.t1.rows ≡ 64
 rows_there c = search (rules, length_mapped)
 
-times_there : (c : tie.Start invariant-loop decreases-loop) → length c.args.t1.times ≡ 1024
+times_there : (c : Start) → length c.args.t1.times ≡ 1024
 times_there c = search rules
 
 -- the times of the row have room where they come from
-room_there : (c : tie.In-loop invariant-loop decreases-loop)
-    → c.before.loop.used + (get_or (called c).args.t1.rows c.before.loop.i zero_row).parts ≤ 1024
-room_there c = (coming c.before.loop.invariant c.loop-test.true).room
+room_there : (c : In-loop-i)
+    → c.loop-i.used + (get_or (called c).args.t1.rows c.loop-i.i zero_row).parts ≤ 1024
+room_there c = (coming c.loop-i.invariant c.loop-i-test.true).room
 
 -- within the table's times
-lent_there : (c : tie.In-loop invariant-loop decreases-loop)
-    → c.before.loop.used + (get_or (called c).args.t1.rows c.before.loop.i zero_row).parts ≤ length (called c).args.t1.times
+lent_there : (c : In-loop-i)
+    → c.loop-i.used + (get_or (called c).args.t1.rows c.loop-i.i zero_row).parts ≤ length (called c).args.t1.times
 lent_there c = omega (arith, room_there c, times_there (called c))
 
 -- and where they go
-room-here : (c : tie.In-loop invariant-loop decreases-loop)
-    → c.before.loop.parts + (get_or (called c).args.t1.rows c.before.loop.i zero_row).parts ≤ 1024
-room-here c = room c.before.loop.invariant c.loop-test.true
+room-here : (c : In-loop-i)
+    → c.loop-i.parts + (get_or (called c).args.t1.rows c.loop-i.i zero_row).parts ≤ 1024
+room-here c = room c.loop-i.invariant c.loop-i-test.true
 
 -- and the row has a place
-place_here : (c : tie.In-loop invariant-loop decreases-loop) → c.before.loop.count < 64
-place_here c = place c.before.loop.invariant c.loop-test.true
+place_here : (c : In-loop-i) → c.loop-i.count < 64
+place_here c = place c.loop-i.invariant c.loop-i-test.true
 
-loop-holds : tie.Need-loop-init invariant-loop decreases-loop
+-- a row of the core, once its times are copied
+abbrev copied : After-times-then-row-core-1 → In-loop-i
+copied c = turn c.before.before.before.before.before
+
+pub loop-i-init : goal.loop-i-init
 unfolding each
-loop-holds c =
-    let s = c.before.before.before in
-    let t = s.args.t1 in
+loop-i-init c =
+    let t = c.args.t1 in
     record {
       mine = [];
       left = tasks_of t;
-      laid = record { number = refl; total = refl; rows_are = rw c.before.row_of_lem.ensures; times_are = refl };
-      asks = rw c.asked-nothing.ensures;
-      ahead = good_ahead t (rows_there s) (times_there s) s.requires;
+      laid = record { number = refl; total = refl; rows_are = rw c.row_of-row0.ensures; times_are = refl };
+      asks = rw c.asked_nothing-asked0.ensures;
+      ahead = good_ahead t (rows_there (goal.at.loop-i-init c).Start) (times_there (goal.at.loop-i-init c).Start) c.requires;
       all = refl;
       fewer = search rules;
       less = search rules;
     }
 
-part-times-end : tie.Need-slice-bounds-times-end invariant-loop decreases-loop
-part-times-end c =
-    let l = turn c.before.before in
+pub slice_bounds-times-end : goal.slice_bounds-times-end
+slice_bounds-times-end c =
+    let l = turn (goal.at.slice_bounds-times-end c).After-struct_known-in-loop-i-1 in
     omega (arith, room-here l, times_long l.before.loop.inv.laid (omega (arith, room-here l)))
 
-copy-requires : tie.Need-copy-requires invariant-loop decreases-loop
-copy-requires c κs =
-    let l = turn c.before.before.before in
+pub copy-requires : goal.copy-requires
+copy-requires c =
+    let l = turn (goal.at.copy-requires c).After-struct_known-in-loop-i-1 in
     fits l.before.loop.inv l.loop-test.taken
 
--- a row of the core, once its times are copied
-abbrev copied : tie.After-times2 invariant-loop decreases-loop → tie.In-loop invariant-loop decreases-loop
-copied c = turn c.before.before.before.before.before
-
-asked-of-requires : tie.Need-asked-of-requires invariant-loop decreases-loop
-asked-of-requires c κs =
-    let l = copied c.before.before in
+pub asked_of-requires : goal.asked_of-requires
+asked_of-requires c =
+    let l = copied (goal.at.asked_of-requires c).After-copy in
     sum_fits l.before.loop.inv l.loop-test.taken
 
-loop-again : tie.Need-loop-preserved invariant-loop decreases-loop
-loop-again c =
-    let l = c.before.before.before.before in
-    let k = l.before.loop.invariant in
+pub loop-i-preserved : goal.loop-i-preserved
+loop-i-preserved c =
+    let k = c.loop-i.invariant in
     ⊎_elim
     (λ w.
     rw (w.9, w.10, w.11, w.12, w.13)
-    (row_kept k l.loop-test.true _ (omega arith) _ w.0.taken w.4.ensures _ w.8.ensures))
-    (λ w. rw (w.1, w.2, w.3, w.4, w.5) (row_passed k l.loop-test.true _ (omega arith) w.0.left))
-    c.if1.branch
+    (row_kept k c.loop-i-test.true _ (omega arith) _ w.0.taken w.4.ensures _ w.8.ensures))
+    (λ w. rw (w.1, w.2, w.3, w.4, w.5) (row_passed k c.loop-i-test.true _ (omega arith) w.0.left))
+    c.if-row-core.branch
 
-returns : tie.Need-returns invariant-loop decreases-loop
-returns c = ends c.before.loop.invariant c.loop-test.false
+pub returns : goal.returns
+returns c = ends c.loop-i.invariant c.loop-i-test.false
 
-pub core_of_spec : {M : Type 1} → statement M
-core_of_spec =
-    tie.close
-    (tie.spec
-    invariant-loop
-    decreases-loop
-    (λ c κs. search rules)
-    (λ c κs. search rules)
-    loop-holds
-    (λ c. omega (arith, c.before.loop.invariant.ahead.few))
-    (λ c. omega (arith, c.before.loop.invariant.ahead.few))
-    (λ c. search rules)
-    (λ c. omega (arith, room_there c.before.before))
-    (λ c. omega (arith, room_there (turn c)))
-    (λ c. omega (arith, room_there (turn c)))
-    (λ c. omega (arith, lent_there (turn c.before)))
-    (λ c. omega (arith, lent_there (turn c.before)))
-    (λ c. omega (arith, room-here (turn c.before.before)))
-    (λ c. omega (arith, room-here (turn c.before.before)))
-    (λ c. omega (arith, room-here (turn c.before.before)))
-    part-times-end
-    copy-requires
-    (λ c. omega (arith, place_here (copied c)))
-    (λ c. place_here (copied c))
-    (λ c. omega (arith, room_there (copied c)))
-    (λ c. omega (arith, room_there (copied c)))
-    (λ c. omega (arith, lent_there (copied c.before)))
-    (λ c. omega (arith, lent_there (copied c.before)))
-    asked-of-requires
-    (λ c. omega (arith, place_here (copied c.before.before.before)))
-    (λ c. place_here (copied c.before.before.before))
-    (λ c. omega (arith, place_here (copied c.before.before.before)))
-    (λ c. omega (arith, room-here (copied c.before.before.before)))
-    (λ c. search rules)
-    (λ c. search rules)
-    loop-again
-    returns)
+pub offset_bounds-t-i : goal.offset_bounds-t-i
+offset_bounds-t-i c = omega (arith, c.loop-i.invariant.ahead.few)
+
+pub bounds-t-i : goal.bounds-t-i
+bounds-t-i c = omega (arith, c.loop-i.invariant.ahead.few)
+
+pub overflow_add-next : goal.overflow_add-next
+overflow_add-next c = omega (arith, room_there (goal.at.overflow_add-next c).In-loop-i)
+
+pub offset_bounds-from-used : goal.offset_bounds-from-used
+offset_bounds-from-used c = omega (arith, room_there (turn c))
+
+pub slice_bounds-copy-count : goal.slice_bounds-copy-count
+slice_bounds-copy-count c = omega (arith, room_there (turn c))
+
+pub slice_bounds-copy-start : goal.slice_bounds-copy-start
+slice_bounds-copy-start c = omega (arith, lent_there (turn (goal.at.slice_bounds-copy-start c).After-struct_known-in-loop-i-1))
+
+pub slice_bounds-copy-end : goal.slice_bounds-copy-end
+slice_bounds-copy-end c = omega (arith, lent_there (turn (goal.at.slice_bounds-copy-end c).After-struct_known-in-loop-i-1))
+
+pub offset_bounds-times-parts : goal.offset_bounds-times-parts
+offset_bounds-times-parts c = omega (arith, room-here (turn (goal.at.offset_bounds-times-parts c).After-struct_known-in-loop-i-1))
+
+pub slice_bounds-copy-count-then-row-core : goal.slice_bounds-copy-count-then-row-core
+slice_bounds-copy-count-then-row-core c = omega (arith, room-here (turn (goal.at.slice_bounds-copy-count-then-row-core c).After-struct_known-in-loop-i-1))
+
+pub slice_bounds-times-start : goal.slice_bounds-times-start
+slice_bounds-times-start c = omega (arith, room-here (turn (goal.at.slice_bounds-times-start c).After-struct_known-in-loop-i-1))
+
+pub offset_bounds-rows-count : goal.offset_bounds-rows-count
+offset_bounds-rows-count c = omega (arith, place_here (copied c))
+
+pub bounds-rows-count : goal.bounds-rows-count
+bounds-rows-count c = place_here (copied c)
+
+pub offset_bounds-from-used-then-row-core : goal.offset_bounds-from-used-then-row-core
+offset_bounds-from-used-then-row-core c = omega (arith, room_there (copied c))
+
+pub slice_bounds-asked_of-count : goal.slice_bounds-asked_of-count
+slice_bounds-asked_of-count c = omega (arith, room_there (copied c))
+
+pub slice_bounds-asked_of-start : goal.slice_bounds-asked_of-start
+slice_bounds-asked_of-start c = omega (arith, lent_there (copied (goal.at.slice_bounds-asked_of-start c).After-copy))
+
+pub slice_bounds-asked_of-end : goal.slice_bounds-asked_of-end
+slice_bounds-asked_of-end c = omega (arith, lent_there (copied (goal.at.slice_bounds-asked_of-end c).After-copy))
+
+pub offset_bounds-asked-count : goal.offset_bounds-asked-count
+offset_bounds-asked-count c = omega (arith, place_here (copied (goal.at.offset_bounds-asked-count c).After-copy))
+
+pub bounds-asked-count : goal.bounds-asked-count
+bounds-asked-count c = place_here (copied (goal.at.bounds-asked-count c).After-copy)
+
+pub overflow_add-count : goal.overflow_add-count
+overflow_add-count c = omega (arith, place_here (copied (goal.at.overflow_add-count c).After-copy))
+
+pub overflow_add-parts : goal.overflow_add-parts
+overflow_add-parts c = omega (arith, room-here (copied (goal.at.overflow_add-parts c).After-copy))

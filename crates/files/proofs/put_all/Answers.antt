@@ -11,14 +11,8 @@ use Rattle.lists.proofs.EachPart.{each-through, each_within}
 use Rattle.lists.proofs.Overs.{over_none, over-length}
 use Rattle.lists.proofs.OverParts.{new_behind}
 use Rattle.numbers.specs.Numbers.{encode, encode_all, Put}
-use Rattle.files.proofs.put_all.Statement.{statement}
-use Rattle.files.proofs.put_all.Tie as tie
-
-record Putting (out₀ ns out : List ℕ) (p i : ℕ) : Type 0 where
-  fits : length (encode_all ns) ≤ length out₀
-  upto : i ≤ length ns
-  place : p ≡ length (encode_all (take i ns))
-  put : out ≡ over (encode_all (take i ns)) out₀
+use Rattle.files.proofs.put_all.Invariants.{Putting}
+use Rattle.files.proofs.put_all.Goals as goal
 
 module _ {out₀ ns out : List ℕ} {p i : ℕ} (k : Putting out₀ ns out p i) where
   -- the bytes so far have room
@@ -59,43 +53,29 @@ module _ {out₀ ns out : List ℕ} {p i : ℕ} (k : Putting out₀ ns out p i) 
   ends : length ns ≤ i → out ≡ over (encode_all ns) out₀
   ends h = k.put ∙ rw (take_all i ns h)
 
-abbrev invariant-loop : tie.invariant-loop
-invariant-loop out₀ numbers p₀ i₀ out p i = Putting out₀ numbers out p i
+pub loop-i-init : goal.loop-i-init
+loop-i-init c =
+    record { fits = c.requires; upto = search rules; place = unfold each in refl; put = unfold each in sym (over_none _) }
 
-abbrev decreases-loop : tie.decreases-loop
-decreases-loop out₀ numbers p₀ i₀ out p i = length numbers - i
+pub overflow_add-p : goal.overflow_add-p
+overflow_add-p c =
+    omega (arith, fits-here c.loop-i.invariant c.loop-i-test.true _ _ c.put_number-p.ensures, long c.loop-i.invariant)
 
-loop-holds : tie.Need-loop-init invariant-loop decreases-loop
-loop-holds c =
-    record { fits = c.before.before.requires; upto = search rules; place = unfold each in refl; put = unfold each in sym (over_none _) }
+pub loop-i-preserved : goal.loop-i-preserved
+loop-i-preserved c =
+    turn c.loop-i.invariant c.loop-i-test.true _ _ c.put_number-p.ensures
 
-add-p : tie.Need-overflow-add-p invariant-loop decreases-loop
-add-p c =
-    let c2 = c.before.before in
-    let c5 = c2.before.before.before in
-    omega (arith, fits-here c5.before.loop.invariant c5.loop-test.true _ _ c2.put-number.ensures, long c5.before.loop.invariant)
+pub slice_bounds-put_number-count : goal.slice_bounds-put_number-count
+slice_bounds-put_number-count c = omega (arith, within c.loop-i.invariant, long c.loop-i.invariant)
 
-loop-again : tie.Need-loop-preserved invariant-loop decreases-loop
-loop-again c =
-    let c2 = c.before.before in
-    turn c2.before.before.before.before.loop.invariant c2.before.before.before.loop-test.true _ _ c2.put-number.ensures
+pub slice_bounds-put_number-start : goal.slice_bounds-put_number-start
+slice_bounds-put_number-start c = omega (arith, within c.loop-i.invariant, long c.loop-i.invariant)
 
-pub put_all_spec : {M : Type 1} → statement M
-put_all_spec =
-    tie.close
-    (tie.spec
-    invariant-loop
-    decreases-loop
-    loop-holds
-    (λ c. omega (arith, within c.before.loop.invariant, long c.before.loop.invariant))
-    (λ c. omega (arith, within c.before.loop.invariant, long c.before.loop.invariant))
-    (λ c. omega (arith, within c.before.loop.invariant, long c.before.loop.invariant))
-    (λ c. search rules)
-    (λ c. search rules)
-    (λ c κs. search rules)
-    add-p
-    (λ c. search rules)
-    (λ c. search rules)
-    loop-again
-    (λ c. long c.before.loop.invariant)
-    (λ c. ends c.before.loop.invariant c.loop-test.false))
+pub slice_bounds-put_number-end : goal.slice_bounds-put_number-end
+slice_bounds-put_number-end c = omega (arith, within c.loop-i.invariant, long c.loop-i.invariant)
+
+pub shape_of-out : goal.shape_of-out
+shape_of-out c = long c.loop-i.invariant
+
+pub returns : goal.returns
+returns c = ends c.loop-i.invariant c.loop-i-test.false

@@ -14,8 +14,8 @@ use Rattle.cores.specs.declared.Which.TheVariants.{Above}
 use Rattle.cores.specs.Cores.{asked_nothing}
 use Rattle.cores.specs.Promises.{asked_load, wanted_loads, asked_at, PutInFront}
 use Rattle.cores.proofs.Wanted.{own-most}
-use Rattle.cores.proofs.own_first.Statement.{statement}
-use Rattle.cores.proofs.own_first.Tie as tie
+use Rattle.cores.proofs.own_first.Goals.{Start}
+use Rattle.cores.proofs.own_first.Goals as goal
 
 -- numbers put behind two that are put first
 put_behind : (first more old new : List ℕ) (end : ℕ) → length first ≤ length old
@@ -25,11 +25,11 @@ put_behind first more old new end h p =
     record { room = q.room ∙ over-twice first more old; ends = q.ends }
 
 -- the row that is read is row `own` of those asked about
-own_is : (s : tie.Start) → asked_at (take s.args.count s.args.t1) s.args.own ≡ get_or s.args.t1 s.args.own asked_nothing
+own_is : (s : Start) → asked_at (take s.args.count s.args.t1) s.args.own ≡ get_or s.args.t1 s.args.own asked_nothing
 own_is s = get_or-take s.args.count s.args.t1 s.args.own asked_nothing s.requires.0.0
 
 -- there is room for its numbers and those of the higher rows
-own-fits : (s : tie.Start) →
+own-fits : (s : Start) →
     let a = get_or s.args.t1 s.args.own asked_nothing in
     2 + length (wanted_loads (Above a.priority) (take s.args.count s.args.t1)) ≤ 128
 unfolding each
@@ -40,26 +40,20 @@ own-fits s =
     let most = rw (own_is s) at (own-most rows s.args.own (omega arith)) in
     omega arith
 
-put-loads-requires : tie.Need-put-loads-requires
-put-loads-requires c κs =
-    let s = c.before.before.before in
-    (s.requires.0.1, simp length-set (omega (arith, s.requires.1, own-fits s)))
+pub put_loads-requires : goal.put_loads-requires
+put_loads-requires c = record {
+  count_bound = c.requires.own_lt_count.1;
+  asked_in_bounds = simp length-set (omega (arith, c.requires.in_bounds, own-fits (goal.at.put_loads-requires c).Start));
+}
 
-returns : tie.Need-returns
+pub returns : goal.returns
 unfolding each
 returns c =
-    let s = c.before.before.before.before.before.before in
-    let first = asked_load (get_or s.args.t1 s.args.own asked_nothing) in
-    rw (own_is s) (put_behind first _ s.args.out.now _ _ (omega (arith, s.requires.1)) c.before.before.put-loads.ensures)
+    let first = asked_load (get_or c.args.t1 c.args.own asked_nothing) in
+    rw (own_is (goal.at.returns c).Start) (put_behind first _ c.args.out.now _ _ (omega (arith, c.requires.in_bounds)) c.put_loads.ensures)
 
-pub own_first_spec : {M : Type 1} → statement M
-own_first_spec =
-    tie.close
-    (tie.spec
-    (λ c. search rules)
-    (λ c. search rules)
-    (λ c. search rules)
-    (λ c. simp length-set (omega arith))
-    put-loads-requires
-    (λ c. c.before.before.put-loads.auto.1.1.1.1.0 ∙ simp length-set)
-    returns)
+pub bounds-out-1 : goal.bounds-out-1
+bounds-out-1 c = simp length-set (omega arith)
+
+pub shape_of-out : goal.shape_of-out
+shape_of-out c = c.put_loads.auto.1.1.1.1.0 ∙ simp length-set

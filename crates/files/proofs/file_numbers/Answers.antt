@@ -22,8 +22,9 @@ use Rattle.table.proofs.Ahead.{Ahead, lent, lent_length, Next, next, none_ahead,
 use Rattle.files.specs.Writing.{row_numbers, file_numbers}
 use Rattle.files.specs.Promises.{InOrder}
 use Rattle.files.specs.RoundTrips.{InMemory}
-use Rattle.files.proofs.file_numbers.Statement.{statement}
-use Rattle.files.proofs.file_numbers.Tie as tie
+use Rattle.files.proofs.file_numbers.Invariants.{Listing, Room}
+use Rattle.files.proofs.file_numbers.Goals.{In-loop-i, Start}
+use Rattle.files.proofs.file_numbers.Goals as goal
 
 -- seven numbers for each row, and its times
 rows-count : (ts : List Task) → length (each row_numbers ts) ≡ 7 * length ts + length (all_times ts)
@@ -31,16 +32,6 @@ unfolding each row_numbers
 rows-count [] = omega arith
 rows-count (t ∷ ts) =
     omega (arith, length-append t.times (each row_numbers ts), length-append t.times (all_times ts), rows-count ts)
-
-record Listing (t : Table) (out₀ out : List ℕ) (p used i : ℕ) : Type 0 where
-  left : List Task
-  ahead : Ahead t used i left
-  new : List ℕ
-  whole : file_numbers (tasks_of t) ≡ new ++ each row_numbers left
-  short : length (file_numbers (tasks_of t)) ≤ 1473
-  size : length out₀ ≡ 1473
-  place : p ≡ length new
-  put : out ≡ over new out₀
 
 module _ {t : Table} {out₀ out : List ℕ} {p used i : ℕ} (l : Listing t out₀ out p used i) where
   -- there is room for what is ahead
@@ -127,76 +118,80 @@ put_all t out m fine r out' o =
     let all : length (tasks_of t) ≡ t.count = count_same t m.rows m.times fine in
     record { count = o.count; fits = rw length-set at o.fits; front = o.front ∙ rw all (first_same t.count _ out) }
 
-abbrev invariant-loop : tie.invariant-loop
-invariant-loop out₀ t n times p₀ used₀ i₀ out p used i = Listing t out₀ out p used i
-
-abbrev decreases-loop : tie.decreases-loop
-decreases-loop out₀ t n times p₀ used₀ i₀ out p used i = t.count - i
-
 -- the table that is given
-in_memory : (c : tie.Start invariant-loop decreases-loop) → InMemory c.args.t1
+in_memory : (c : Start) → InMemory c.args.t1
 in_memory c = record { rows = search (rules, length_mapped); times = search rules }
 
 -- the next row, where the code is at it
-here : (c : tie.In-loop invariant-loop decreases-loop) → let l = c.before.loop in
-    Next c.before.before.before.before.args.t1 l.used l.i l.invariant.left
-here c = next c.before.loop.invariant.left c.before.loop.invariant.ahead c.loop-test.true
+here : (c : In-loop-i) → let l = c.loop-i in
+    Next c.args.t1 l.used l.i l.invariant.left
+here c = next c.loop-i.invariant.left c.loop-i.invariant.ahead c.loop-i-test.true
 
--- its times lie within the table's, and its numbers have room
-record Room (t : Table) (out : List ℕ) (p used i : ℕ) : Type 0 where
-  times : length t.times ≡ 1024
-  within : used + (get_or t.rows i zero_row).parts ≤ 1024
-  size : length out ≡ 1473
-  numbers : p + (7 + (get_or t.rows i zero_row).parts) ≤ 1473
-
-room-here : (c : tie.In-loop invariant-loop decreases-loop) → let l = c.before.loop in
-    Room c.before.before.before.before.args.t1 l.out l.p l.used l.i
+room-here : (c : In-loop-i) → let l = c.loop-i in
+    Room c.args.t1 l.out l.p l.used l.i
 room-here c =
-    let l = c.before.loop.invariant in
+    let l = c.loop-i.invariant in
     record { times = search rules; within = (here c).room; size = long l; numbers = fits l (here c) }
 
-put-row-requires : tie.Need-put-row-requires invariant-loop decreases-loop
-put-row-requires c κs =
-    let c5 = c.before.before.before.before.before in
-    rw (lent_length (here c5), length-take, length-drop) (omega (arith, room-here c5))
+pub put_row-requires : goal.put_row-requires
+put_row-requires c =
+    rw (lent_length (here (goal.at.put_row-requires c).At-loop-i), length-take, length-drop) (omega (arith, room-here (goal.at.put_row-requires c).At-loop-i))
 
-loop-again : tie.Need-loop-preserved invariant-loop decreases-loop
-loop-again c =
-    let c9 = c.before.before.before.before.before.before.before.before.before in
-    turn c9.before.loop.invariant (here c9) _ c.before.before.before.put-row.ensures
+pub loop-i-preserved : goal.loop-i-preserved
+loop-i-preserved c =
+    turn c.loop-i.invariant (here (goal.at.loop-i-preserved c).At-loop-i) _ c.put_row.ensures
 
-returns : tie.Need-returns invariant-loop decreases-loop
+pub returns : goal.returns
 returns c =
-    let a = c.before.before.before.before in
-    put_all _ a.args.out.now (in_memory a) a.requires.0 _ _ (ends c.before.loop.invariant c.loop-test.false)
+    put_all _ c.args.out.now (in_memory (goal.at.returns c).Start) c.requires.0 _ _ (ends c.loop-i.invariant c.loop-i-test.false)
 
-pub file_numbers_spec : {M : Type 1} → statement M
-file_numbers_spec =
-    tie.close
-    (tie.spec
-    invariant-loop
-    decreases-loop
-    (λ c. let a = c.before.before in let m = in_memory a in omega (arith, count_few _ m.rows m.times a.requires.0))
-    (λ c. omega (arith, c.before.before.requires.1))
-    (λ c. let a = c.before.before in starts _ a.args.out.now (in_memory a) a.requires.1 a.requires.0)
-    (λ c. omega (arith, c.before.loop.invariant.ahead.few))
-    (λ c. omega (arith, c.before.loop.invariant.ahead.few))
-    (λ c. search rules)
-    (λ c. omega (arith, room-here c.before.before))
-    (λ c. omega (arith, room-here c.before.before))
-    (λ c. omega (arith, room-here c.before.before))
-    (λ c. omega (arith, room-here c.before.before.before))
-    (λ c. omega (arith, room-here c.before.before.before))
-    (λ c. omega (arith, room-here c.before.before.before.before))
-    (λ c. omega (arith, room-here c.before.before.before.before))
-    (λ c. omega (arith, room-here c.before.before.before.before))
-    (λ c. omega (arith, room-here c.before.before.before.before))
-    put-row-requires
-    (λ c. omega (arith, room-here c.before.before.before.before.before.before.before.before))
-    (λ c. search rules)
-    (λ c. omega (arith, room-here c.before.before.before.before.before.before.before.before.before))
-    (λ c. search rules)
-    (λ c. search rules)
-    loop-again
-    (λ c. long c.before.loop.invariant ∙ sym c.before.before.before.before.requires.1)
-    returns)
+pub overflow_cast-out : goal.overflow_cast-out
+overflow_cast-out c = let m = in_memory (goal.at.overflow_cast-out c).Start in omega (arith, count_few _ m.rows m.times c.requires.0)
+
+pub bounds-out-0 : goal.bounds-out-0
+bounds-out-0 c = omega (arith, c.requires.1)
+
+pub loop-i-init : goal.loop-i-init
+loop-i-init c = starts _ c.args.out.now (in_memory (goal.at.loop-i-init c).Start) c.requires.1 c.requires.0
+
+pub offset_bounds-t-i : goal.offset_bounds-t-i
+offset_bounds-t-i c = omega (arith, c.loop-i.invariant.ahead.few)
+
+pub bounds-t-i : goal.bounds-t-i
+bounds-t-i c = omega (arith, c.loop-i.invariant.ahead.few)
+
+pub overflow_add-end : goal.overflow_add-end
+overflow_add-end c = omega (arith, room-here (goal.at.overflow_add-end c).In-loop-i)
+
+pub offset_bounds-times-used : goal.offset_bounds-times-used
+offset_bounds-times-used c = omega (arith, room-here (goal.at.offset_bounds-times-used c).In-loop-i)
+
+pub slice_bounds-put_row-count : goal.slice_bounds-put_row-count
+slice_bounds-put_row-count c = omega (arith, room-here (goal.at.slice_bounds-put_row-count c).In-loop-i)
+
+pub slice_bounds-put_row-start : goal.slice_bounds-put_row-start
+slice_bounds-put_row-start c = omega (arith, room-here (goal.at.slice_bounds-put_row-start c).At-loop-i)
+
+pub slice_bounds-put_row-end : goal.slice_bounds-put_row-end
+slice_bounds-put_row-end c = omega (arith, room-here (goal.at.slice_bounds-put_row-end c).At-loop-i)
+
+pub offset_bounds-out-p : goal.offset_bounds-out-p
+offset_bounds-out-p c = omega (arith, room-here (goal.at.offset_bounds-out-p c).At-loop-i)
+
+pub slice_bounds-put_row-count-in-loop-i : goal.slice_bounds-put_row-count-in-loop-i
+slice_bounds-put_row-count-in-loop-i c = omega (arith, room-here (goal.at.slice_bounds-put_row-count-in-loop-i c).At-loop-i)
+
+pub slice_bounds-put_row-start-in-loop-i : goal.slice_bounds-put_row-start-in-loop-i
+slice_bounds-put_row-start-in-loop-i c = omega (arith, room-here (goal.at.slice_bounds-put_row-start-in-loop-i c).At-loop-i)
+
+pub slice_bounds-put_row-end-in-loop-i : goal.slice_bounds-put_row-end-in-loop-i
+slice_bounds-put_row-end-in-loop-i c = omega (arith, room-here (goal.at.slice_bounds-put_row-end-in-loop-i c).At-loop-i)
+
+pub overflow_add-p : goal.overflow_add-p
+overflow_add-p c = omega (arith, room-here (goal.at.overflow_add-p c).At-loop-i)
+
+pub overflow_add-p-in-loop-i : goal.overflow_add-p-in-loop-i
+overflow_add-p-in-loop-i c = omega (arith, room-here (goal.at.overflow_add-p-in-loop-i c).At-loop-i)
+
+pub shape_of-out : goal.shape_of-out
+shape_of-out c = long c.loop-i.invariant ∙ sym c.requires.1

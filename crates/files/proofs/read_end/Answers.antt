@@ -10,8 +10,7 @@ use Rattle.table.specs.declared.Verdict.TheVariants.{Trailing}
 use Rattle.fields.specs.Stepping.{stop}
 use Rattle.files.specs.Reading.{loaded}
 use Rattle.files.specs.Promises.{answer_with, closed}
-use Rattle.files.proofs.read_end.Statement.{statement}
-use Rattle.files.proofs.read_end.Tie as tie
+use Rattle.files.proofs.read_end.Goals as goal
 
 module _ (s : List ℕ) (at : ℕ) (t : Table) where
   -- a byte is left
@@ -24,11 +23,8 @@ module _ (s : List ℕ) (at : ℕ) (t : Table) where
   unfolding closed
   all h = rw (le-ltb at (length s) h)
 
-pub read_end_spec : {M : Type 1} → statement M
-read_end_spec =
-    tie.close
-    (tie.spec
-    (λ c κs. search rules)
-    (λ c. c.refuse.ensures ∙ past _ _ _ c.before.if1.true)
-    (λ c κs. search rules)
-    (λ c. c.answer-with.ensures ∙ all _ _ _ c.before.if1.false))
+pub returns-then-at-bytes : goal.returns-then-at-bytes
+returns-then-at-bytes c = c.refuse.ensures ∙ past _ _ _ c.if-at-bytes.true
+
+pub returns : goal.returns
+returns c = c.answer_with.ensures ∙ all _ _ _ c.if-at-bytes.false

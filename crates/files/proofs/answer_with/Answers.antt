@@ -12,8 +12,7 @@ use Rattle.table.proofs.Codes.{is_good, is_fault}
 use Rattle.fields.specs.Stepping.{stop}
 use Rattle.files.specs.Reading.{loaded}
 use Rattle.files.specs.Promises.{answer_with}
-use Rattle.files.proofs.answer_with.Statement.{statement}
-use Rattle.files.proofs.answer_with.Tie as tie
+use Rattle.files.proofs.answer_with.Goals as goal
 
 module _ (t : Table) (v : Verdict) (k : ℕ) (said : v ≡ clash_of (used_rows t)) (code : k ≡ code_of v) where
   -- rows clash
@@ -26,13 +25,9 @@ module _ (t : Table) (v : Verdict) (k : ℕ) (said : v ≡ clash_of (used_rows t
   unfolding answer_with
   fine e = rw (← said, is_good v (sym code ∙ e))
 
-returns : tie.Need-returns
-returns c =
-    let c2 = c.before.before in
-    c.refuse.ensures ∙ clashes _ _ _ c2.before.clash_of_lem.ensures c2.code_of_lem.ensures c.before.if1.true
+pub returns-then-code_of-ne0 : goal.returns-then-code_of-ne0
+returns-then-code_of-ne0 c =
+    c.refuse.ensures ∙ clashes _ _ _ c.clash_of-v.ensures c.code_of.ensures c.if-code_of-ne0.true
 
-returns-2 : tie.Need-returns-2
-returns-2 c = fine _ _ _ c.before.before.clash_of_lem.ensures c.before.code_of_lem.ensures c.if1.false
-
-pub answer_with_spec : {M : Type 1} → statement M
-answer_with_spec = tie.close (tie.spec (λ c κs. search rules) (λ c κs. search rules) (λ c κs. search rules) returns returns-2)
+pub returns : goal.returns
+returns c = fine _ _ _ c.clash_of-v.ensures c.code_of.ensures c.if-code_of-ne0.false

@@ -18,8 +18,7 @@ use Rattle.fields.specs.Stepping.{Step, stop, go, ◌then◌}
 use Rattle.files.specs.Reading.{end_at, loaded}
 use Rattle.files.specs.Promises.{as_body, closed}
 use Rattle.files.proofs.Steps.{answer-stored}
-use Rattle.files.proofs.read_body.Statement.{statement}
-use Rattle.files.proofs.read_body.Tie as tie
+use Rattle.files.proofs.read_body.Goals as goal
 
 -- stored tasks are closed as the definition says
 closes : (s : List ℕ) (ts : List Task) (at : ℕ) → closed s at (stored ts) ≡ loaded (end_at s ts at)
@@ -48,22 +47,9 @@ module _ (s : List ℕ) (b : Body) where
       let lies : b.table ≡ stored ts = ap (λ (k : Body). k.table) read in
       said ∙ ap (closed s p) lies ∙ rw (closes s ts p, same)
 
-returns : tie.Need-returns
-returns c = c.refuse.ensures ∙ stops _ _ _ c.before.before.before.before.read-rows.ensures _ c.before.before.next.given.1
+pub returns-in-Refused : goal.returns-in-Refused
+returns-in-Refused c = c.refuse.ensures ∙ stops _ _ _ c.read_rows-body.ensures _ c.in-Refused.is
 
-returns-2 : tie.Need-returns-2
-returns-2 c =
-    let c3 = c.before.before.before in
-    ends _ _ _ c3.before.before.read-rows.ensures _ _ c3.next2.given.1 c.read-end.ensures
-
-pub read_body_spec : {M : Type 1} → statement M
-read_body_spec =
-    tie.close
-    (tie.spec
-    (λ c κs. search rules)
-    (λ c. search rules)
-    (λ c κs. search rules)
-    (λ c. search rules)
-    (λ c κs. search rules)
-    returns
-    returns-2)
+pub returns-in-At : goal.returns-in-At
+returns-in-At c =
+    ends _ _ _ c.read_rows-body.ensures _ _ c.in-At.is c.read_end.ensures
