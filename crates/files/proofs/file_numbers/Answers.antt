@@ -119,27 +119,27 @@ put_all t out m fine r out' o =
     record { count = o.count; fits = rw length-set at o.fits; front = o.front ∙ rw all (first_same t.count _ out) }
 
 -- the table that is given
-in_memory : (c : Start) → InMemory c.args.t1
+in_memory : (c : Start) → InMemory c.args.t
 in_memory c = record { rows = search (rules, length_mapped); times = search rules }
 
 -- the next row, where the code is at it
 here : (c : In-loop-i) → let l = c.loop-i in
-    Next c.args.t1 l.used l.i l.invariant.left
+    Next c.args.t l.used l.i l.invariant.left
 here c = next c.loop-i.invariant.left c.loop-i.invariant.ahead c.loop-i-test.true
 
 room-here : (c : In-loop-i) → let l = c.loop-i in
-    Room c.args.t1 l.out l.p l.used l.i
+    Room c.args.t l.out l.p l.used l.i
 room-here c =
     let l = c.loop-i.invariant in
     record { times = search rules; within = (here c).room; size = long l; numbers = fits l (here c) }
 
 pub put_row-requires : goal.put_row-requires
 put_row-requires c =
-    rw (lent_length (here (goal.at.put_row-requires c).At-loop-i), length-take, length-drop) (omega (arith, room-here (goal.at.put_row-requires c).At-loop-i))
+    rw (lent_length (here (goal.at.put_row-requires c).In-loop-i), length-take, length-drop) (omega (arith, room-here (goal.at.put_row-requires c).In-loop-i))
 
 pub loop-i-preserved : goal.loop-i-preserved
 loop-i-preserved c =
-    turn c.loop-i.invariant (here (goal.at.loop-i-preserved c).At-loop-i) _ c.put_row.ensures
+    turn c.loop-i.invariant (here (goal.at.loop-i-preserved c).In-loop-i) _ c.put_row.ensures
 
 pub returns : goal.returns
 returns c =
@@ -170,28 +170,28 @@ pub slice_bounds-put_row-count : goal.slice_bounds-put_row-count
 slice_bounds-put_row-count c = omega (arith, room-here (goal.at.slice_bounds-put_row-count c).In-loop-i)
 
 pub slice_bounds-put_row-start : goal.slice_bounds-put_row-start
-slice_bounds-put_row-start c = omega (arith, room-here (goal.at.slice_bounds-put_row-start c).At-loop-i)
+slice_bounds-put_row-start c = omega (arith, room-here (goal.at.slice_bounds-put_row-start c).In-loop-i)
 
 pub slice_bounds-put_row-end : goal.slice_bounds-put_row-end
-slice_bounds-put_row-end c = omega (arith, room-here (goal.at.slice_bounds-put_row-end c).At-loop-i)
+slice_bounds-put_row-end c = omega (arith, room-here (goal.at.slice_bounds-put_row-end c).In-loop-i)
 
 pub offset_bounds-out-p : goal.offset_bounds-out-p
-offset_bounds-out-p c = omega (arith, room-here (goal.at.offset_bounds-out-p c).At-loop-i)
+offset_bounds-out-p c = omega (arith, room-here (goal.at.offset_bounds-out-p c).In-loop-i)
 
 pub slice_bounds-put_row-count-in-loop-i : goal.slice_bounds-put_row-count-in-loop-i
-slice_bounds-put_row-count-in-loop-i c = omega (arith, room-here (goal.at.slice_bounds-put_row-count-in-loop-i c).At-loop-i)
+slice_bounds-put_row-count-in-loop-i c = omega (arith, room-here (goal.at.slice_bounds-put_row-count-in-loop-i c).In-loop-i)
 
 pub slice_bounds-put_row-start-in-loop-i : goal.slice_bounds-put_row-start-in-loop-i
-slice_bounds-put_row-start-in-loop-i c = omega (arith, room-here (goal.at.slice_bounds-put_row-start-in-loop-i c).At-loop-i)
+slice_bounds-put_row-start-in-loop-i c = omega (arith, room-here (goal.at.slice_bounds-put_row-start-in-loop-i c).In-loop-i)
 
 pub slice_bounds-put_row-end-in-loop-i : goal.slice_bounds-put_row-end-in-loop-i
-slice_bounds-put_row-end-in-loop-i c = omega (arith, room-here (goal.at.slice_bounds-put_row-end-in-loop-i c).At-loop-i)
+slice_bounds-put_row-end-in-loop-i c = omega (arith, room-here (goal.at.slice_bounds-put_row-end-in-loop-i c).In-loop-i)
 
 pub overflow_add-p : goal.overflow_add-p
-overflow_add-p c = omega (arith, room-here (goal.at.overflow_add-p c).At-loop-i)
+overflow_add-p c = omega (arith, room-here (goal.at.overflow_add-p c).In-loop-i)
 
 pub overflow_add-p-in-loop-i : goal.overflow_add-p-in-loop-i
-overflow_add-p-in-loop-i c = omega (arith, room-here (goal.at.overflow_add-p-in-loop-i c).At-loop-i)
+overflow_add-p-in-loop-i c = omega (arith, room-here (goal.at.overflow_add-p-in-loop-i c).In-loop-i)
 
 pub shape_of-out : goal.shape_of-out
 shape_of-out c = long c.loop-i.invariant ∙ sym c.requires.1

@@ -66,7 +66,7 @@ module _ {s : List ℕ} {at n : ℕ} {rows : List Row} {times : List ℕ} {p use
 -- the row that is read now
 stored_row : (c : In-Got) → let s = c.args.bytes.now in let l = c.loop-i in
     RowStored (row_in Seven s l.used l.p) l.used l.times c.in-Got.row c.in-Got.next
-    c.read_row.new.1.1.1.1.0
+    c.read_row.new.times
 stored_row c = rw c.in-Got.is at c.read_row.ensures
 
 -- there is place for it

@@ -32,10 +32,10 @@ loop-i-init c = record { upto = search rules; few = search rules; same = unfold 
 
 pub overflow_add-size : goal.overflow_add-size
 overflow_add-size c =
-    omega (arith, c.loop-i.invariant.few, c.type_size.ensures, encode_few (get_or c.args.numbers.now c.loop-i.i 0), c.requires)
+    omega (arith, c.loop-i.invariant.few, c.size_of-size.ensures, encode_few (get_or c.args.numbers.now c.loop-i.i 0), c.requires)
 
 pub loop-i-preserved : goal.loop-i-preserved
-loop-i-preserved c = turn c.loop-i.invariant c.loop-i-test.true _ c.type_size.ensures
+loop-i-preserved c = turn c.loop-i.invariant c.loop-i-test.true _ c.size_of-size.ensures
 
 pub returns : goal.returns
 returns c = ends c.loop-i.invariant c.loop-i-test.false
