@@ -11,8 +11,8 @@ use Rattle.text.proofs.Puts.{Putting, starts, byte_put, room, turn, last}
 use Rattle.table.specs.declared.Row.{Row}
 use Rattle.comma.specs.Promises.{line_text}
 use Rattle.comma.proofs.LinePuts.{fields_piece, times_piece, line_pieces}
-use Rattle.comma.proofs.put_line.Statement.{statement}
-use Rattle.comma.proofs.put_line.Tie as tie
+use Rattle.comma.proofs.put_line.Goals.{After-put_numbers-p, After-put_numbers-q}
+use Rattle.comma.proofs.put_line.Goals as goal
 
 module _ (r : Row) (times : List ℕ) {out : List ℕ} {at : ℕ} (some : 1 ≤ length times) (h : Fits (line_text r times) at out) where
   -- the fields have room
@@ -34,32 +34,30 @@ module _ (r : Row) (times : List ℕ) {out : List ℕ} {at : ℕ} (some : 1 ≤ 
     feed_left put = turn times-left (times_piece times) _ refl put
 
 -- the fields as the code has them
-fields_put : (c : tie.After-put-numbers) → let a = c.before.before.before.before.before.before.args in
-    PutAt (fields_piece a.row) a.at a.out.now c.put-numbers.result c.put-numbers.new.0
-fields_put c = rw c.before.before.before.fields-of.ensures at c.put-numbers.ensures
+fields_put : (c : After-put_numbers-p) → let a = c.args in
+    PutAt (fields_piece a.row) a.at a.out.now c.put_numbers-p.result c.put_numbers-p.new.out
+fields_put c = rw c.fields_of-fields.ensures at c.put_numbers-p.ensures
 
 -- what is left once the times are put
-left : (c : tie.After-put-numbers2) → let a = c.before.before.before.before.before.before.before.before.before.before.args in
-    Putting (line_text a.row a.times.now) a.out.now a.at c.put-numbers2.new.0 c.put-numbers2.result (line_feed ∷ [])
+left : (c : After-put_numbers-q) → let a = c.args in
+    Putting (line_text a.row a.times.now) a.out.now a.at c.put_numbers-q.new.out c.put_numbers-q.result (line_feed ∷ [])
 left c =
-    let c4 = c.before.before.before.before in
-    let c10 = c4.before.before.before.before.before.before in
-    feed_left c10.args.row _ c10.requires.0 c10.requires.1 (fields_put c4) c.put-numbers2.ensures
+    feed_left c.args.row _ c.requires.0 c.requires.1 (rw c.fields_of-fields.ensures at c.put_numbers-p.ensures) c.put_numbers-q.ensures
 
-pub put_line_spec : {M : Type 1} → statement M
-put_line_spec =
-    tie.close
-    (tie.spec
-    (λ c κs. search rules)
-    (λ c. search rules)
-    (λ c κs.
-    let c5 = c.before.before.before.before.before in
-    rw c.before.before.fields-of.ensures (omega arith, fields_fit c5.args.row _ c5.requires.0 c5.requires.1))
-    (λ c κs.
-    let c3 = c.before.before.before in
-    let c9 = c3.before.before.before.before.before.before in
-    (c9.requires.0, times_fit c9.args.row _ c9.requires.0 c9.requires.1 (fields_put c3)))
-    (λ c. omega (arith, (left c.before.before).fits.room))
-    (λ c. omega (arith, (left c.before.before).fits.room))
-    (λ c. let c2 = c.before.before in length-set c2.put-numbers2.new.0 c2.put-numbers2.result 10 ∙ (left c2).long)
-    (λ c. last (left c.before.before) (byte_put _ _ _)))
+pub put_numbers-p-requires : goal.put_numbers-p-requires
+put_numbers-p-requires c = rw c.fields_of-fields.ensures (omega arith, fields_fit c.args.row _ c.requires.0 c.requires.1)
+
+pub put_numbers-q-requires : goal.put_numbers-q-requires
+put_numbers-q-requires c = (c.requires.0, times_fit c.args.row _ c.requires.0 c.requires.1 (fields_put (goal.at.put_numbers-q-requires c).After-put_numbers-p))
+
+pub bounds-out-q : goal.bounds-out-q
+bounds-out-q c = omega (arith, (left (goal.at.bounds-out-q c).After-put_numbers-q).fits.room)
+
+pub overflow_add-result : goal.overflow_add-result
+overflow_add-result c = omega (arith, (left (goal.at.overflow_add-result c).After-put_numbers-q).fits.room)
+
+pub shape_of-out : goal.shape_of-out
+shape_of-out c = length-set c.put_numbers-q.new.out c.put_numbers-q.result 10 ∙ (left (goal.at.shape_of-out c).After-put_numbers-q).long
+
+pub returns : goal.returns
+returns c = last (left (goal.at.returns c).After-put_numbers-q) (byte_put _ _ _)

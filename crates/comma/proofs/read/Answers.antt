@@ -22,15 +22,9 @@ use Rattle.files.specs.Reading.{loaded}
 use Rattle.files.specs.Promises.{answer_with}
 use Rattle.comma.specs.Reading.{line_at, lines_at, read_text}
 use Rattle.comma.proofs.LinesSteps.{lines_end, lines_over, lines_more, lines_stop, text_stops, text_ends}
-use Rattle.comma.proofs.read.Statement.{statement}
-use Rattle.comma.proofs.read.Tie as tie
-
-record Loading (s : List ℕ) (rows : List Row) (times : List ℕ) (p used i : ℕ) : Type 0 where
-  done : List Task
-  laid : Laid done rows times i used
-  few : i ≤ 64
-  room : used ≤ 1024
-  same : lines_at 64 [] s 0 ≡ lines_at (64 - i) done s p
+use Rattle.comma.proofs.read.Invariants.{Loading}
+use Rattle.comma.proofs.read.Goals.{In-Got}
+use Rattle.comma.proofs.read.Goals as goal
 
 module _ {s : List ℕ} {rows : List Row} {times : List ℕ} {p used i : ℕ} (l : Loading s rows times p used i) where
   -- at the text's end
@@ -71,68 +65,59 @@ module _ {s : List ℕ} {rows : List Row} {times : List ℕ} {p used i : ℕ} (l
             same = l.same ∙ lines_more l.done s p some (64 - i) left r.task q (here r.read) ∙ rw rest;
           }
 
-abbrev invariant-loop : tie.invariant-loop
-invariant-loop text rows₀ times₀ p₀ used₀ count₀ rows times p used count = Loading text rows times p used count
+-- the line that is read now
+stored_row : (c : In-Got) → let s = c.args.text.now in let l = c.loop-p in
+    RowStored (row_in Commas s l.used l.p) l.used l.times c.in-Got.row c.in-Got.next
+    c.read_row.new.times
+stored_row c = rw c.in-Got.is at c.read_row.ensures
 
-abbrev decreases-loop : tie.decreases-loop
-decreases-loop text rows₀ times₀ p₀ used₀ count₀ rows times p used count = 64 - count
+-- there is place for its row
+below_64 : (c : In-Got) → c.loop-p.count < 64
+below_64 c = omega (arith, c.if-count-eq64.false, c.loop-p.invariant.few)
 
-loop-holds : tie.Need-loop-init invariant-loop decreases-loop
+pub loop-p-init : goal.loop-p-init
 unfolding each
-loop-holds c =
+loop-p-init c =
     record {
       done = [];
-      laid = record { number = refl; total = refl; rows_are = rw c.row_of_lem.ensures; times_are = refl };
+      laid = record { number = refl; total = refl; rows_are = rw c.row_of-row0.ensures; times_are = refl };
       few = search rules;
       room = search rules;
       same = refl;
     }
 
--- the line that is read now
-stored_row : (c : tie.After-row invariant-loop decreases-loop) → let b = c.before.before.before.before.before.before.before in
-    let s = b.before.before.before.args.text.now in let l = b.loop in
-    RowStored (row_in Commas s l.used l.p) l.used l.times c.row.given.0.0 c.row.given.0.1.0
-    c.before.before.before.read-row.new.1.1.1.1.0
-stored_row c = rw c.row.given.1 at c.before.before.before.read-row.ensures
+pub returns-in-Refused : goal.returns-in-Refused
+returns-in-Refused c =
+    c.refuse-in-Refused.ensures ∙ stops c.loop-p.invariant c.loop-p-test.true c.if-count-eq64.false _
+    (rw c.in-Refused.is at c.read_row.ensures)
 
--- there is place for its row
-below_64 : (c : tie.After-row invariant-loop decreases-loop) → c.before.before.before.before.before.before.before.loop.count < 64
-below_64 c = let b = c.before.before.before.before.before in omega (arith, b.if1.false, b.before.before.loop.invariant.few)
+pub loop-p-preserved : goal.loop-p-preserved
+loop-p-preserved c =
+    turn c.loop-p.invariant c.loop-p-test.true c.if-count-eq64.false (stored_row (goal.at.loop-p-preserved c).In-Got)
 
-returns-2 : tie.Need-returns-2 invariant-loop decreases-loop
-returns-2 c =
-    let read = c.before.before.before.before.before in
-    let test = read.before.before in
-    c.refuse2.ensures ∙ stops test.before.before.loop.invariant test.before.loop-test.true test.if1.false _
-    (rw c.before.before.v.given.1 at read.read-row.ensures)
+pub returns-then-count-eq64 : goal.returns-then-count-eq64
+returns-then-count-eq64 c = c.refuse.ensures ∙ over c.loop-p.invariant c.loop-p-test.true c.if-count-eq64.true
 
-loop-again : tie.Need-loop-preserved invariant-loop decreases-loop
-loop-again c =
-    let row = c.before.before in
-    let test = row.before.before.before.before.before in
-    turn test.before.before.loop.invariant test.before.loop-test.true test.if1.false (stored_row row)
+pub slice_bounds-read_row-end : goal.slice_bounds-read_row-end
+slice_bounds-read_row-end c = let l = c.loop-p.invariant in sym (times_long l.laid l.room)
 
-pub read_spec : {M : Type 1} → statement M
-read_spec =
-    tie.close
-    (tie.spec
-    invariant-loop
-    decreases-loop
-    (λ c κs. search rules)
-    loop-holds
-    (λ c κs. search rules)
-    (λ c. c.refuse.ensures ∙ over c.before.before.before.loop.invariant c.before.before.loop-test.true c.before.if1.true)
-    (λ c. let l = c.before.before.before.loop.invariant in sym (times_long l.laid l.room))
-    (λ c κs. let l = c.before.before.before.loop.invariant in (l.room, times_long l.laid l.room))
-    (λ c. search rules)
-    (λ c κs. search rules)
-    returns-2
-    (λ c. search rules)
-    (λ c. omega (arith, below_64 c.before))
-    (λ c. below_64 c.before)
-    (λ c. omega (arith, (stored_row c.before.before).room))
-    (λ c. omega (arith, below_64 c.before.before))
-    (λ c. omega (arith, below_64 c.before.before))
-    loop-again
-    (λ c κs. search rules)
-    (λ c. c.answer-with.ensures ∙ ends c.before.before.loop.invariant c.before.loop-test.false))
+pub read_row-requires : goal.read_row-requires
+read_row-requires c = let l = c.loop-p.invariant in (l.room, times_long l.laid l.room)
+
+pub offset_bounds-rows-count : goal.offset_bounds-rows-count
+offset_bounds-rows-count c = omega (arith, below_64 (goal.at.offset_bounds-rows-count c).In-Got)
+
+pub bounds-rows-count : goal.bounds-rows-count
+bounds-rows-count c = below_64 (goal.at.bounds-rows-count c).In-Got
+
+pub overflow_add-used : goal.overflow_add-used
+overflow_add-used c = omega (arith, (stored_row (goal.at.overflow_add-used c).In-Got).room)
+
+pub overflow_add-count : goal.overflow_add-count
+overflow_add-count c = omega (arith, below_64 (goal.at.overflow_add-count c).In-Got)
+
+pub loop-p-smaller : goal.loop-p-smaller
+loop-p-smaller c = omega (arith, below_64 (goal.at.loop-p-smaller c).In-Got)
+
+pub returns : goal.returns
+returns c = c.answer_with.ensures ∙ ends c.loop-p.invariant c.loop-p-test.false
