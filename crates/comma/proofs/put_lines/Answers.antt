@@ -1,17 +1,17 @@
 -- `comma::put_lines` meets its contract: row by row, each with its own times. Assumes nothing.
-use Prim.Native.Nat.{ℕ, ◌+◌, ◌-◌, ◌≤◌, ◌<◌}
+use Prim.Native.Nat.{ℕ, ◌+◌, ◌≤◌, ◌<◌}
 use native.Mathlib.Omega.{arith}
 use borrow.Author.Rules.{rules}
 use mathlib.Core.Path.{◌≡◌, sym, ap, ◌∙◌}
 use mathlib.Core.List.{List, ◌++◌}
 use lib.ListN.{length, get_or}
-use Rattle.model.specs.Task.{Task, parts}
+use Rattle.model.specs.Task.{parts}
 use Rattle.table.specs.declared.Table.{Table}
 use Rattle.table.specs.Verdicts.{code_of}
 use Rattle.table.specs.Memory.{zero_row, tasks_of}
 use Rattle.table.specs.Faults.{fault_of}
 use Rattle.table.proofs.Rows.{length_mapped}
-use Rattle.table.proofs.Ahead.{Ahead, lent, Next, next, none_ahead, good_ahead}
+use Rattle.table.proofs.Ahead.{lent, Next, next, none_ahead, good_ahead}
 use Rattle.text.specs.Promises.{Fits, PutAt}
 use Rattle.text.proofs.Puts.{Putting, room, turn, ends}
 use Rattle.text.proofs.Puts as puts

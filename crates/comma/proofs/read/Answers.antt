@@ -12,7 +12,7 @@ use Rattle.table.specs.declared.Row.{Row}
 use Rattle.table.specs.declared.Verdict.{Verdict}
 use Rattle.table.specs.declared.Verdict.TheVariants.{OutOfRange}
 use Rattle.table.specs.Memory.{all_times}
-use Rattle.table.proofs.Laid.{Laid, laid_stored, times_long}
+use Rattle.table.proofs.Laid.{laid_stored, times_long}
 use Rattle.fields.specs.declared.Way.TheVariants.{Commas}
 use Rattle.fields.specs.Stepping.{Step, stop}
 use Rattle.fields.specs.Ways.{row_in}
@@ -20,7 +20,7 @@ use Rattle.fields.specs.Promises.{RowStored}
 use Rattle.fields.proofs.RowLaid.{laid_row}
 use Rattle.files.specs.Reading.{loaded}
 use Rattle.files.specs.Promises.{answer_with}
-use Rattle.comma.specs.Reading.{line_at, lines_at, read_text}
+use Rattle.comma.specs.Reading.{line_at, read_text}
 use Rattle.comma.proofs.LinesSteps.{lines_end, lines_over, lines_more, lines_stop, text_stops, text_ends}
 use Rattle.comma.proofs.read.Invariants.{Loading}
 use Rattle.comma.proofs.read.Goals.{In-Got}

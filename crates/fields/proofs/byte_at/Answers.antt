@@ -1,6 +1,5 @@
 -- `fields::byte_at` meets its contract. Assumes nothing.
 use Prim.Native.Nat.{ℕ, ◌≤◌}
-use borrow.Author.Rules.{rules}
 use mathlib.Core.Path.{◌≡◌, sym}
 use mathlib.Core.List.{List}
 use lib.ListN.{length, get_or, get_or-eq_default}

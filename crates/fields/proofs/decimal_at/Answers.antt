@@ -1,9 +1,6 @@
 -- `fields::decimal_at` meets its contract: digit by digit. Assumes nothing.
-use Prim.Native.Nat.{◌-◌}
 use native.Mathlib.Omega.{arith}
-use borrow.Author.Rules.{rules}
-use lib.ListN.{length}
-use Rattle.fields.proofs.Scanned.{Scanning, starts, inside, turn, some, ends_none, ends_zero, ends_got}
+use Rattle.fields.proofs.Scanned.{starts, inside, turn, some, ends_none, ends_zero, ends_got}
 use Rattle.fields.proofs.decimal_at.Goals as goal
 
 pub loop-digit-init : goal.loop-digit-init

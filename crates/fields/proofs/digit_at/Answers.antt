@@ -1,7 +1,6 @@
 -- `fields::digit_at` meets its contract. Assumes nothing.
 use Prim.Native.Nat.{ℕ, ◌-◌, ◌≤◌, ◌<◌}
 use native.Mathlib.Omega.{arith}
-use borrow.Author.Rules.{rules}
 use mathlib.Core.Path.{◌≡◌}
 use Rattle.fields.specs.Promises.{digit_or}
 use Rattle.text.proofs.Numerals.{is_digit_lem}

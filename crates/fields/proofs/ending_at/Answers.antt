@@ -1,7 +1,6 @@
 -- `fields::ending_at` meets its contract: each return is one case of `ending_at`. Assumes nothing.
 use Prim.Native.Nat.{◌+◌}
 use native.Mathlib.Omega.{arith}
-use borrow.Author.Rules.{rules}
 use mathlib.Core.Path.{sym, ap, ◌∙◌}
 use Rattle.lists.proofs.Drops.{some_within}
 use Rattle.fields.specs.Promises.{as_ended}

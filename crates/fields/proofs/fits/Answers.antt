@@ -1,5 +1,4 @@
 -- `fields::fits` meets its contract: each return is one case. Assumes nothing.
-use borrow.Author.Rules.{rules}
 use Rattle.fields.specs.TextFields.{fits}
 use Rattle.fields.proofs.fits.Goals as goal
 

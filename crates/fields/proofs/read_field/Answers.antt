@@ -1,6 +1,5 @@
 -- `fields::read_field` meets its contract: each return is one case of `asked`. Assumes nothing.
 use Prim.Native.Nat.{ℕ}
-use borrow.Author.Rules.{rules}
 use mathlib.Core.Path.{◌≡◌, sym, ap, ◌∙◌}
 use mathlib.Core.List.{List}
 use Rattle.numbers.specs.Numbers.{number_at}

@@ -1,12 +1,7 @@
 -- `fields::read_fields` meets its contract: number by number. Assumes nothing.
-use Prim.Native.Nat.{◌-◌}
 use native.Mathlib.Omega.{arith}
-use borrow.Author.Rules.{rules}
-use mathlib.Core.Path.{sym, ◌∙◌}
-use lib.ListN.{length}
-use Rattle.fields.specs.Ways.{number_by}
 use Rattle.fields.proofs.Steps.{got_field, refused-field}
-use Rattle.fields.proofs.Filling.{Filling, starts, long, turn, halts, ends}
+use Rattle.fields.proofs.Filling.{starts, long, turn, halts, ends}
 use Rattle.fields.proofs.read_fields.Goals as goal
 
 pub returns-in-Refused : goal.returns-in-Refused

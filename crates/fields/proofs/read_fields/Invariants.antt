@@ -1,12 +1,8 @@
 -- `fields::read_fields` meets its contract: number by number. Assumes nothing.
 use Prim.Native.Nat.{◌-◌}
-use native.Mathlib.Omega.{arith}
-use borrow.Author.Rules.{rules}
-use mathlib.Core.Path.{sym, ◌∙◌}
 use lib.ListN.{length}
 use Rattle.fields.specs.Ways.{number_by}
-use Rattle.fields.proofs.Steps.{got_field, refused-field}
-use Rattle.fields.proofs.Filling.{Filling, starts, long, turn, halts, ends}
+use Rattle.fields.proofs.Filling.{Filling}
 use Rattle.fields.proofs.read_fields.Given as goal
 
 abbrev pub invariant-loop-i : goal.invariant-loop-i

@@ -1,6 +1,6 @@
 -- `fields::read_head` meets its contract: the fields of which the constants are the ranges, then the part count. Assumes nothing.
 use borrow.Author.Rules.{rules}
-use mathlib.Core.Path.{sym, ap, ◌∙◌}
+use mathlib.Core.Path.{ap, ◌∙◌}
 use Rattle.table.specs.declared.Row.{Row}
 use Rattle.table.proofs.Heads.{lows, highs}
 use Rattle.fields.specs.declared.Head.TheVariants as H

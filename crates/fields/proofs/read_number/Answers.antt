@@ -1,5 +1,4 @@
 -- `fields::read_number` meets its contract: each way has its own. Assumes nothing.
-use borrow.Author.Rules.{rules}
 use Rattle.fields.proofs.read_number.Goals as goal
 
 pub returns-in-Seven : goal.returns-in-Seven

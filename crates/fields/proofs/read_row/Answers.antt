@@ -1,8 +1,7 @@
 -- `fields::read_row` meets its contract: its fields, then its times into their part of the room. Assumes nothing.
 use Prim.Native.Nat.{◌+◌, ◌-◌}
 use native.Mathlib.Omega.{arith}
-use borrow.Author.Rules.{rules}
-use mathlib.Core.Path.{◌≡◌, sym, ◌∙◌}
+use mathlib.Core.Path.{◌≡◌}
 use mathlib.Core.List.{[]}
 use lib.ListN.{length, take, drop}
 use Rattle.table.specs.Fields.{head}

@@ -1,5 +1,4 @@
 -- `fields::read_text_field` meets its contract: each return is one case of `text_field`. Assumes nothing.
-use borrow.Author.Rules.{rules}
 use mathlib.Core.Path.{sym, ◌∙◌}
 use Rattle.fields.proofs.FieldSteps.{value_stops, ending_stops, range_stops, stop_fits, stop_misfits}
 use Rattle.fields.proofs.read_text_field.Goals as goal

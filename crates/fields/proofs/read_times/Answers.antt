@@ -1,7 +1,6 @@
 -- `fields::read_times` meets its contract: all times but the last, then the last. Assumes nothing.
 use native.Mathlib.Omega.{arith}
-use borrow.Author.Rules.{rules}
-use mathlib.Core.Path.{sym, ◌∙◌}
+use mathlib.Core.Path.{sym}
 use lib.Seq.{length-take-le}
 use Rattle.table.proofs.FieldRanges.{length_same}
 use Rattle.fields.proofs.Steps.{got_field, refused-field}

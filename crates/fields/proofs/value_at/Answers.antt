@@ -1,6 +1,5 @@
 -- `fields::value_at` meets its contract: each return is one case of `value_at`. Assumes nothing.
 use native.Mathlib.Omega.{arith}
-use borrow.Author.Rules.{rules}
 use mathlib.Core.Path.{sym, ap, ◌∙◌}
 use Rattle.lists.proofs.Drops.{some_within}
 use Rattle.fields.specs.Promises.{as_field}

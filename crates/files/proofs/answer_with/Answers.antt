@@ -1,6 +1,5 @@
 -- `files::answer_with` meets its contract: each return is one case of `answer_with`. Assumes nothing.
 use Prim.Native.Nat.{ℕ}
-use borrow.Author.Rules.{rules}
 use mathlib.Core.Path.{◌≡◌, sym, ◌∙◌}
 use Rattle.table.specs.declared.Table.{Table}
 use Rattle.table.specs.declared.Verdict.{Verdict}

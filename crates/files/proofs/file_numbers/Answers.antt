@@ -18,7 +18,7 @@ use Rattle.table.specs.Memory.{zero_row, all_times, tasks_of}
 use Rattle.table.specs.Faults.{fault_of}
 use Rattle.table.proofs.Rows.{length_mapped}
 use Rattle.table.proofs.GoodTasks.{count_few, count_same}
-use Rattle.table.proofs.Ahead.{Ahead, lent, lent_length, Next, next, none_ahead, good_ahead}
+use Rattle.table.proofs.Ahead.{lent, lent_length, Next, next, none_ahead, good_ahead}
 use Rattle.files.specs.Writing.{row_numbers, file_numbers}
 use Rattle.files.specs.Promises.{InOrder}
 use Rattle.files.specs.RoundTrips.{InMemory}

@@ -1,27 +1,14 @@
 -- `files::file_numbers` meets its contract. The invariant: the numbers so far and those of the rows ahead are the whole. Assumes nothing.
-use Prim.Native.Nat.{ℕ, ◌+◌, ◌-◌, ◌*◌, ◌≤◌}
-use native.Mathlib.Omega.{arith}
-use borrow.Author.Rules.{rules}
-use mathlib.Core.Path.{◌≡◌, refl, sym, ap, ◌∙◌}
-use mathlib.Core.List.{List, [], ◌∷◌, ◌++◌, append_assoc, append-nil}
-use lib.ListN.{length, get_or, take, drop, set, length-set, length-append, length-take, length-drop}
-use lib.Seq.{sets, drop-set-lt}
+use Prim.Native.Nat.{ℕ, ◌+◌, ◌-◌, ◌≤◌}
+use mathlib.Core.Path.{◌≡◌}
+use mathlib.Core.List.{List, ◌++◌}
+use lib.ListN.{length, get_or}
 use Rattle.lists.specs.Lists.{each, over}
-use Rattle.lists.proofs.Overs.{over_none, over-length, over-one}
-use Rattle.lists.proofs.OverParts.{new_behind}
 use Rattle.model.specs.Task.{Task}
-use Rattle.table.specs.declared.Row.{Row}
 use Rattle.table.specs.declared.Table.{Table}
-use Rattle.table.specs.Verdicts.{code_of}
-use Rattle.table.specs.Fields.{fields_of}
-use Rattle.table.specs.Memory.{zero_row, all_times, tasks_of}
-use Rattle.table.specs.Faults.{fault_of}
-use Rattle.table.proofs.Rows.{length_mapped}
-use Rattle.table.proofs.GoodTasks.{count_few, count_same}
-use Rattle.table.proofs.Ahead.{Ahead, lent, lent_length, Next, next, none_ahead, good_ahead}
+use Rattle.table.specs.Memory.{zero_row, tasks_of}
+use Rattle.table.proofs.Ahead.{Ahead}
 use Rattle.files.specs.Writing.{row_numbers, file_numbers}
-use Rattle.files.specs.Promises.{InOrder}
-use Rattle.files.specs.RoundTrips.{InMemory}
 use Rattle.files.proofs.file_numbers.Given as goal
 
 pub record Listing (t : Table) (out₀ out : List ℕ) (p used i : ℕ) : Type 0 where

@@ -13,7 +13,7 @@ use Rattle.table.specs.declared.Row.{Row}
 use Rattle.table.specs.declared.Table.{Table}
 use Rattle.table.specs.declared.Verdict.{Verdict}
 use Rattle.table.specs.Memory.{all_times}
-use Rattle.table.proofs.Laid.{Laid, laid_stored, times_long}
+use Rattle.table.proofs.Laid.{laid_stored, times_long}
 use Rattle.fields.specs.declared.Next.TheVariants.{At}
 use Rattle.fields.specs.declared.Way.TheVariants.{Seven}
 use Rattle.fields.specs.Stepping.{Step, stop, go}

@@ -1,28 +1,12 @@
 -- `files::read_rows` meets its contract. The invariant: some rows are done and lie in memory as they should, the others are
 -- still to be read. Assumes nothing.
-use Prim.Native.Nat.{ℕ, ◌+◌, ◌-◌, ◌≤◌, ◌<◌}
-use native.Mathlib.Nat.{sub-zero}
-use native.Mathlib.Omega.{arith}
-use borrow.Author.Rules.{rules}
-use mathlib.Core.Path.{◌≡◌, refl, sym, ap, ◌∙◌}
-use mathlib.Core.List.{List, [], ◌∷◌, ◌++◌}
-use lib.ListN.{length, set}
-use Rattle.lists.specs.Lists.{each}
+use Prim.Native.Nat.{ℕ, ◌-◌, ◌≤◌}
+use mathlib.Core.Path.{◌≡◌}
+use mathlib.Core.List.{List, []}
 use Rattle.model.specs.Task.{Task}
 use Rattle.table.specs.declared.Row.{Row}
-use Rattle.table.specs.declared.Table.{Table}
-use Rattle.table.specs.declared.Verdict.{Verdict}
-use Rattle.table.specs.Memory.{all_times}
-use Rattle.table.proofs.Laid.{Laid, laid_stored, times_long}
-use Rattle.fields.specs.declared.Next.TheVariants.{At}
-use Rattle.fields.specs.declared.Way.TheVariants.{Seven}
-use Rattle.fields.specs.Stepping.{Step, stop, go}
-use Rattle.fields.specs.Ways.{row_in}
-use Rattle.fields.specs.Promises.{RowStored}
-use Rattle.fields.proofs.RowLaid.{laid_row}
-use Rattle.files.specs.Reading.{row_at, rows_at}
-use Rattle.files.specs.Promises.{as_body}
-use Rattle.files.proofs.Steps.{rows_more, rows_stop}
+use Rattle.table.proofs.Laid.{Laid}
+use Rattle.files.specs.Reading.{rows_at}
 use Rattle.files.proofs.read_rows.Given as goal
 
 pub record Loading (s : List ℕ) (at n : ℕ) (rows : List Row) (times : List ℕ) (p used i : ℕ) : Type 0 where

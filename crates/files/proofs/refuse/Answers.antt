@@ -1,5 +1,4 @@
 -- `files::refuse` meets its contract. Assumes nothing.
-use borrow.Author.Rules.{rules}
 use mathlib.Core.Path.{ap}
 use Rattle.table.specs.declared.Table.{Table}
 use Rattle.files.specs.declared.Loaded.{Loaded}

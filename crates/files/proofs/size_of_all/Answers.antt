@@ -1,10 +1,10 @@
 -- `files::size_of_all` meets its contract. The invariant: the size of the first numbers. Assumes nothing.
-use Prim.Native.Nat.{ℕ, ◌+◌, ◌-◌, ◌*◌, ◌≤◌, ◌<◌}
+use Prim.Native.Nat.{ℕ, ◌+◌, ◌≤◌, ◌<◌}
 use native.Mathlib.Omega.{arith}
 use borrow.Author.Rules.{rules}
 use mathlib.Core.Path.{◌≡◌, refl, ◌∙◌}
 use mathlib.Core.List.{List}
-use lib.ListN.{length, get_or, take, length-append}
+use lib.ListN.{length, get_or, length-append}
 use lib.Seq.{take_all}
 use Rattle.lists.specs.Lists.{each}
 use Rattle.lists.proofs.EachPart.{each-through}

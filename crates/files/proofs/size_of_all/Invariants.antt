@@ -1,15 +1,9 @@
 -- `files::size_of_all` meets its contract. The invariant: the size of the first numbers. Assumes nothing.
-use Prim.Native.Nat.{ℕ, ◌+◌, ◌-◌, ◌*◌, ◌≤◌, ◌<◌}
-use native.Mathlib.Omega.{arith}
-use borrow.Author.Rules.{rules}
-use mathlib.Core.Path.{◌≡◌, refl, ◌∙◌}
+use Prim.Native.Nat.{ℕ, ◌-◌, ◌*◌, ◌≤◌}
+use mathlib.Core.Path.{◌≡◌}
 use mathlib.Core.List.{List}
-use lib.ListN.{length, get_or, take, length-append}
-use lib.Seq.{take_all}
-use Rattle.lists.specs.Lists.{each}
-use Rattle.lists.proofs.EachPart.{each-through}
-use Rattle.numbers.specs.Numbers.{encode, encode_all}
-use Rattle.numbers.proofs.Laws.{encode_few}
+use lib.ListN.{length, take}
+use Rattle.numbers.specs.Numbers.{encode_all}
 use Rattle.files.proofs.size_of_all.Given as goal
 
 pub record Summing (ns : List ℕ) (size i : ℕ) : Type 0 where

@@ -1,6 +1,5 @@
 -- `files::write_bytes` meets its contract: no room, or the bytes in front of the rest. Assumes nothing.
 use native.Mathlib.Omega.{arith}
-use borrow.Author.Rules.{rules}
 use mathlib.Core.Path.{refl, ◌∙◌}
 use Rattle.lists.proofs.Overs.{over-sets}
 use Rattle.table.specs.declared.Verdict.TheVariants.{Good}

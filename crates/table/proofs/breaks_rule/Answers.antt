@@ -2,7 +2,6 @@
 use borrow.Author.Tests.{eq-eqb, ne_eqb}
 use mathlib.Core.Path.{sym, ◌∙◌}
 use Rattle.table.specs.Clash.{breaks}
-use borrow.Author.Rules.{rules}
 use Rattle.table.proofs.breaks_rule.Goals as goal
 
 pub returns-then-coop_above : goal.returns-then-coop_above

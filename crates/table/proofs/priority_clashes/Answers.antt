@@ -1,8 +1,7 @@
 -- `table::priority_clashes` meets its contract. What slots, marks and `crossed` know of the rows before row i. Assumes nothing.
-use Prim.Native.Nat.{ℕ, ◌+◌, ◌-◌, ◌≤◌, ◌<◌}
+use Prim.Native.Nat.{ℕ, ◌+◌, ◌≤◌, ◌<◌}
 use native.Mathlib.Omega.{arith}
 use borrow.Author.Rules.{rules}
-use borrow.Author.Tests.{not-false}
 use mathlib.Core.Path.{◌≡◌, sym, ◌∙◌}
 use mathlib.Core.Bool.{Bool, true, false}
 use mathlib.Core.List.{List}
@@ -12,12 +11,11 @@ use Rattle.lists.specs.Lists.{any}
 use Rattle.table.specs.declared.Marks.{Marks}
 use Rattle.table.specs.declared.Row.{Row}
 use Rattle.table.specs.declared.Rule.TheVariants as R
-use Rattle.table.specs.Memory.{zero_row}
 use Rattle.table.specs.Clash.{breaks}
 use Rattle.table.specs.Promises.{FirstsOf, Placed, slot_of, marks_with, first_crossed}
-use Rattle.table.proofs.Clashes.{Looking, looking_start, one_more, looking_next, looking_here, looking_past}
+use Rattle.table.proofs.Clashes.{looking_start, one_more, looking_next, looking_here, looking_past}
 use Rattle.table.proofs.Rows.{length_mapped}
-use Rattle.table.proofs.Seen.{zero_marks, Seen, seen_start, seen_more}
+use Rattle.table.proofs.Seen.{zero_marks, seen_start, seen_more}
 use Rattle.table.proofs.priority_clashes.Invariants.{row_at, Passing}
 use Rattle.table.proofs.priority_clashes.Goals.{Else-not-has_place}
 use Rattle.table.proofs.priority_clashes.Goals as goal
@@ -84,7 +82,7 @@ pub slot_of-slot-requires : goal.slot_of-slot-requires
 slot_of-slot-requires c = placed c
 
 pub bounds-taken-slot-in-loop-i : goal.bounds-taken-slot-in-loop-i
-bounds-taken-slot-in-loop-i c = 
+bounds-taken-slot-in-loop-i c =
     slot_inside _ _ (placed (goal.at.bounds-taken-slot-in-loop-i c).Else-not-has_place) c.slot_of-slot.ensures
 
 pub offset_bounds-marks-core : goal.offset_bounds-marks-core
