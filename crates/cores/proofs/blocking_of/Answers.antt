@@ -1,7 +1,6 @@
 -- `cores::blocking_of` meets its contract, by the row's type and by whether there is a lower part. Assumes nothing.
 use Prim.Native.Nat.{◌-◌}
 use native.Mathlib.Omega.{arith}
-use borrow.Author.Rules.{rules}
 use borrow.Author.Tests.{eq-eqb, ne_eqb}
 use mathlib.Core.Path.{◌≡◌, ap}
 use lib.ListN.{take}

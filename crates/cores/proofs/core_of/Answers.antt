@@ -18,8 +18,8 @@ use Rattle.table.specs.declared.Row.{Row}
 use Rattle.table.specs.declared.Table.{Table}
 use Rattle.table.specs.Memory.{zero_row, task_of, tasks_of}
 use Rattle.table.proofs.Rows.{length_mapped}
-use Rattle.table.proofs.Laid.{Laid, laid_stored, times_long, behind-length, laid_more}
-use Rattle.table.proofs.Ahead.{Ahead, lent, Next, next, none_ahead, good_ahead}
+use Rattle.table.proofs.Laid.{laid_stored, times_long, behind-length, laid_more}
+use Rattle.table.proofs.Ahead.{lent, Next, next, none_ahead, good_ahead}
 use Rattle.cores.specs.declared.Asked.{Asked}
 use Rattle.cores.specs.Cores.{asked_of, asked_nothing, core_of}
 use Rattle.table.proofs.Stored.{times-count}
@@ -183,11 +183,11 @@ pub loop-i-preserved : goal.loop-i-preserved
 loop-i-preserved c =
     let k = c.loop-i.invariant in
     elim c.if-row-core.branch [
-      then-row-core w ↦
-        rw (w.rows-is, w.times-is, w.asked-is, w.count-is, w.parts-is)
-        (row_kept k c.loop-i-test.true _ refl _ w.if-row-core.true w.copy.ensures _ w.asked_of.ensures) |
-      else-row-core w ↦
-        rw (w.rows-is, w.times-is, w.asked-is, w.count-is, w.parts-is) (row_passed k c.loop-i-test.true _ refl w.if-row-core.false)
+      | then-row-core w ↦
+          rw (w.rows-is, w.times-is, w.asked-is, w.count-is, w.parts-is)
+          (row_kept k c.loop-i-test.true _ refl _ w.if-row-core.true w.copy.ensures _ w.asked_of.ensures)
+      | else-row-core w ↦
+          rw (w.rows-is, w.times-is, w.asked-is, w.count-is, w.parts-is) (row_passed k c.loop-i-test.true _ refl w.if-row-core.false)
     ]
 
 pub returns : goal.returns

@@ -1,6 +1,6 @@
 -- `cores::longest_below` meets its contract. The invariant: the longest so far and the longest of the others give the longest of all.
 -- Assumes nothing.
-use Prim.Native.Nat.{ℕ, ◌+◌, ◌-◌, ◌≤◌, ◌<◌, max}
+use Prim.Native.Nat.{ℕ, ◌+◌, ◌≤◌, ◌<◌, max}
 use native.Mathlib.Omega.{arith}
 use borrow.Author.Rules.{rules}
 use borrow.Author.Tests.{lt-ltb, le-ltb}
@@ -47,8 +47,8 @@ pub loop-i-preserved : goal.loop-i-preserved
 loop-i-preserved c =
     let next = next_row (goal.at.loop-i-preserved c).In-loop-i in
     elim c.if-a-priority.branch [
-      then-a-priority w ↦ omega (arith, lower-row next w.if-a-priority.true, c.loop-i.invariant, w.larger-most.ensures, w.most-is) |
-      else-a-priority w ↦ omega (arith, other_row next w.if-a-priority.false, c.loop-i.invariant, w.most-is)
+      | then-a-priority w ↦ omega (arith, lower-row next w.if-a-priority.true, c.loop-i.invariant, w.larger-most.ensures, w.most-is)
+      | else-a-priority w ↦ omega (arith, other_row next w.if-a-priority.false, c.loop-i.invariant, w.most-is)
     ]
 
 pub returns : goal.returns

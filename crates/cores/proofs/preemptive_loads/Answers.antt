@@ -1,6 +1,5 @@
 -- `cores::preemptive_loads` meets its contract: the rows wanted are the preemptive ones. Assumes nothing.
 use native.Mathlib.Omega.{arith}
-use borrow.Author.Rules.{rules}
 use lib.ListN.{take, length-take}
 use Rattle.cores.specs.declared.Which.TheVariants.{Preemptive}
 use Rattle.cores.proofs.Wanted.{wanted-most}

@@ -1,6 +1,6 @@
 -- `cores::put_loads` meets its contract. The invariant: the numbers of the rows so far stand in front, and those of the others follow.
 -- Assumes nothing.
-use Prim.Native.Nat.{ℕ, ◌+◌, ◌-◌, ◌≤◌, ◌<◌}
+use Prim.Native.Nat.{ℕ, ◌+◌, ◌≤◌, ◌<◌}
 use native.Mathlib.Numerals.{add-one}
 use native.Mathlib.Omega.{arith}
 use borrow.Author.Rules.{rules}
@@ -116,8 +116,8 @@ loop-i-preserved c =
     let s = c.args in
     let next = next_row s.asked s.count c.loop-i.i (search (rules, length_mapped)) c.requires.count_bound c.loop-i-test.true in
     elim c.if-is_wanted.branch [
-      then-is_wanted w ↦ rw (w.out-is, w.end-is) (row_put p next (sym c.is_wanted.ensures ∙ w.if-is_wanted.true)) |
-      else-is_wanted w ↦ rw (w.out-is, w.end-is) (row_passed p next (sym c.is_wanted.ensures ∙ w.if-is_wanted.false))
+      | then-is_wanted w ↦ rw (w.out-is, w.end-is) (row_put p next (sym c.is_wanted.ensures ∙ w.if-is_wanted.true))
+      | else-is_wanted w ↦ rw (w.out-is, w.end-is) (row_passed p next (sym c.is_wanted.ensures ∙ w.if-is_wanted.false))
     ]
 
 pub returns : goal.returns
