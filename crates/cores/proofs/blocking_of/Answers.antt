@@ -22,7 +22,8 @@ returns-then-a-ne1 c =
     rw (get_or-take c.args.count c.args.asked c.args.own asked_nothing c.requires.0, ne_eqb _ 1 c.if-a-ne1.true)
 
 pub returns-then-longest-eq0 : goal.returns-then-longest-eq0
-returns-then-longest-eq0 c = omega (arith, less_one (goal.at.returns-then-longest-eq0 c).After-longest_below-longest, c.if-longest-eq0.true)
+returns-then-longest-eq0 c =
+    omega (arith, less_one (goal.at.returns-then-longest-eq0 c).After-longest_below-longest, c.if-longest-eq0.true)
 
 pub returns : goal.returns
 returns c = omega (arith, less_one (goal.at.returns c).After-longest_below-longest)

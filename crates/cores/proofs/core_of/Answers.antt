@@ -35,8 +35,9 @@ times-add u g =
     omega (arith, g.count.most)
 
 -- what is asked of one row more stands behind what is asked of the others
-asks_more : (mine : List Task) (asked : List Asked) (count : ℕ) (u : Task) (a : Asked) → asked ≡ pad_to asked_nothing 64 (map asked_of mine)
-    → count ≡ length mine → count < 64 → a ≡ asked_of u → set asked count a ≡ pad_to asked_nothing 64 (map asked_of (mine ++ (u ∷ [])))
+asks_more : (mine : List Task) (asked : List Asked) (count : ℕ) (u : Task) (a : Asked)
+    → asked ≡ pad_to asked_nothing 64 (map asked_of mine) → count ≡ length mine → count < 64 → a ≡ asked_of u
+    → set asked count a ≡ pad_to asked_nothing 64 (map asked_of (mine ++ (u ∷ [])))
 asks_more mine asked count u a asks number few e =
     let at-end : count ≡ length (map asked_of mine) = number ∙ sym (length-map mine asked_of) in
     rw (asks, at-end, e, map-append asked_of mine (u ∷ [])) (set-pad asked_nothing 64 (map asked_of mine) (asked_of u) (omega arith))

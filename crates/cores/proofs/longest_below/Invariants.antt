@@ -7,7 +7,8 @@ use Rattle.cores.specs.Promises.{longest_below}
 use Rattle.cores.proofs.longest_below.Given as goal
 
 abbrev pub invariant-loop-i : goal.invariant-loop-i
-invariant-loop-i l = max l.most (longest_below l.priority (drop l.i (take l.count l.asked))) ≡ longest_below l.priority (take l.count l.asked)
+invariant-loop-i l =
+    max l.most (longest_below l.priority (drop l.i (take l.count l.asked))) ≡ longest_below l.priority (take l.count l.asked)
 
 abbrev pub decreases-loop-i : goal.decreases-loop-i
 decreases-loop-i l = l.count - l.i
