@@ -1,5 +1,4 @@
 -- `cores::asked_of` meets its contract: its cost and its longest part are what the two callees promise. Assumes nothing.
-use borrow.Author.Rules.{rules}
 use Rattle.model.specs.Task.{cost}
 use Rattle.cores.proofs.asked_of.Goals as goal
 

@@ -4,7 +4,6 @@ use Prim.Native.Nat.{ℕ, ◌+◌, ◌-◌, ◌*◌, ◌≤◌, ◌<◌}
 use native.Mathlib.Omega.{arith}
 use borrow.Author.Rules.{rules}
 use mathlib.Core.Path.{◌≡◌, refl, sym, ap, ◌∙◌}
-use mathlib.Core.Logic.{⊎_elim}
 use mathlib.Core.List.{List, [], ◌∷◌, ◌++◌, map, map-append, append-nil}
 use lib.ListN.{length, get_or, take, drop, set, length-map}
 use lib.Seq.{sets, append_snoc}
@@ -19,13 +18,13 @@ use Rattle.table.specs.declared.Row.{Row}
 use Rattle.table.specs.declared.Table.{Table}
 use Rattle.table.specs.Memory.{zero_row, task_of, tasks_of}
 use Rattle.table.proofs.Rows.{length_mapped}
-use Rattle.table.proofs.Laid.{Laid, laid_stored, times_long, behind-length, laid_more}
-use Rattle.table.proofs.Ahead.{Ahead, lent, Next, next, none_ahead, good_ahead}
+use Rattle.table.proofs.Laid.{laid_stored, times_long, behind-length, laid_more}
+use Rattle.table.proofs.Ahead.{lent, Next, next, none_ahead, good_ahead}
 use Rattle.cores.specs.declared.Asked.{Asked}
 use Rattle.cores.specs.Cores.{asked_of, asked_nothing, core_of}
 use Rattle.table.proofs.Stored.{times-count}
 use Rattle.cores.proofs.core_of.Invariants.{Keeping}
-use Rattle.cores.proofs.core_of.Goals.{After-times-then-row-core-1, In-loop-i, Start, Then-row-core}
+use Rattle.cores.proofs.core_of.Goals.{Start, In-loop-i, then-row-core, else-row-core}
 use Rattle.cores.proofs.core_of.Goals as goal
 
 -- a good task's times add up to a number that fits
@@ -36,8 +35,9 @@ times-add u g =
     omega (arith, g.count.most)
 
 -- what is asked of one row more stands behind what is asked of the others
-asks_more : (mine : List Task) (asked : List Asked) (count : ℕ) (u : Task) (a : Asked) → asked ≡ pad_to asked_nothing 64 (map asked_of mine)
-    → count ≡ length mine → count < 64 → a ≡ asked_of u → set asked count a ≡ pad_to asked_nothing 64 (map asked_of (mine ++ (u ∷ [])))
+asks_more : (mine : List Task) (asked : List Asked) (count : ℕ) (u : Task) (a : Asked)
+    → asked ≡ pad_to asked_nothing 64 (map asked_of mine) → count ≡ length mine → count < 64 → a ≡ asked_of u
+    → set asked count a ≡ pad_to asked_nothing 64 (map asked_of (mine ++ (u ∷ [])))
 asks_more mine asked count u a asks number few e =
     let at-end : count ≡ length (map asked_of mine) = number ∙ sym (length-map mine asked_of) in
     rw (asks, at-end, e, map-append asked_of mine (u ∷ [])) (set-pad asked_nothing 64 (map asked_of mine) (asked_of u) (omega arith))
@@ -124,53 +124,42 @@ module _ {t : Table} {core : ℕ} {rows : List Row} {times : List ℕ} {asked : 
       = λ j. record { own = laid_stored k.laid j; parts = number j; asked = k.asks j } in
       whole ∙ sym (ap core_of mine)
 
--- the function's entry, as the loop sees it, and the loop, as a row of the core sees it
-abbrev called : In-loop-i → Start
-called c = c.before.before.before.before.before
-
-abbrev turn : Then-row-core → In-loop-i
-turn c = c.before.before.before.before
-
 -- the rows and times of a table in memory, by its type
-rows_there : (c : Start) → length c.args.t1.rows ≡ 64
+rows_there : (c : Start) → length c.args.t.rows ≡ 64
 rows_there c = search (rules, length_mapped)
 
-times_there : (c : Start) → length c.args.t1.times ≡ 1024
+times_there : (c : In-loop-i) → length c.args.t.times ≡ 1024
 times_there c = search rules
 
 -- the times of the row have room where they come from
 room_there : (c : In-loop-i)
-    → c.loop-i.used + (get_or (called c).args.t1.rows c.loop-i.i zero_row).parts ≤ 1024
+    → c.loop-i.used + (get_or c.args.t.rows c.loop-i.i zero_row).parts ≤ 1024
 room_there c = (coming c.loop-i.invariant c.loop-i-test.true).room
 
 -- within the table's times
 lent_there : (c : In-loop-i)
-    → c.loop-i.used + (get_or (called c).args.t1.rows c.loop-i.i zero_row).parts ≤ length (called c).args.t1.times
-lent_there c = omega (arith, room_there c, times_there (called c))
+    → c.loop-i.used + (get_or c.args.t.rows c.loop-i.i zero_row).parts ≤ length c.args.t.times
+lent_there c = omega (arith, room_there c, times_there c)
 
 -- and where they go
 room-here : (c : In-loop-i)
-    → c.loop-i.parts + (get_or (called c).args.t1.rows c.loop-i.i zero_row).parts ≤ 1024
+    → c.loop-i.parts + (get_or c.args.t.rows c.loop-i.i zero_row).parts ≤ 1024
 room-here c = room c.loop-i.invariant c.loop-i-test.true
 
 -- and the row has a place
 place_here : (c : In-loop-i) → c.loop-i.count < 64
 place_here c = place c.loop-i.invariant c.loop-i-test.true
 
--- a row of the core, once its times are copied
-abbrev copied : After-times-then-row-core-1 → In-loop-i
-copied c = turn c.before.before.before.before.before
-
 pub loop-i-init : goal.loop-i-init
 unfolding each
 loop-i-init c =
-    let t = c.args.t1 in
+    let t = c.args.t in
     record {
       mine = [];
       left = tasks_of t;
       laid = record { number = refl; total = refl; rows_are = rw c.row_of-row0.ensures; times_are = refl };
       asks = rw c.asked_nothing-asked0.ensures;
-      ahead = good_ahead t (rows_there (goal.at.loop-i-init c).Start) (times_there (goal.at.loop-i-init c).Start) c.requires;
+      ahead = good_ahead t (rows_there (goal.at.loop-i-init c).Start) (search rules) c.requires;
       all = refl;
       fewer = search rules;
       less = search rules;
@@ -178,28 +167,29 @@ loop-i-init c =
 
 pub slice_bounds-times-end : goal.slice_bounds-times-end
 slice_bounds-times-end c =
-    let l = turn (goal.at.slice_bounds-times-end c).After-struct_known-in-loop-i-1 in
-    omega (arith, room-here l, times_long l.before.loop.inv.laid (omega (arith, room-here l)))
+    let l = (goal.at.slice_bounds-times-end c).In-loop-i in
+    omega (arith, room-here l, times_long l.loop-i.invariant.laid (omega (arith, room-here l)))
 
 pub copy-requires : goal.copy-requires
 copy-requires c =
-    let l = turn (goal.at.copy-requires c).After-struct_known-in-loop-i-1 in
-    fits l.before.loop.inv l.loop-test.taken
+    let l = (goal.at.copy-requires c).In-loop-i in
+    fits l.loop-i.invariant l.loop-i-test.true
 
 pub asked_of-requires : goal.asked_of-requires
 asked_of-requires c =
-    let l = copied (goal.at.asked_of-requires c).After-copy in
-    sum_fits l.before.loop.inv l.loop-test.taken
+    let l = (goal.at.asked_of-requires c).In-loop-i in
+    sum_fits l.loop-i.invariant l.loop-i-test.true
 
 pub loop-i-preserved : goal.loop-i-preserved
 loop-i-preserved c =
     let k = c.loop-i.invariant in
-    ⊎_elim
-    (λ w.
-    rw (w.9, w.10, w.11, w.12, w.13)
-    (row_kept k c.loop-i-test.true _ (omega arith) _ w.0.taken w.4.ensures _ w.8.ensures))
-    (λ w. rw (w.1, w.2, w.3, w.4, w.5) (row_passed k c.loop-i-test.true _ (omega arith) w.0.left))
-    c.if-row-core.branch
+    elim c.if-row-core.branch [
+      | then-row-core w ↦
+          rw (w.rows-is, w.times-is, w.asked-is, w.count-is, w.parts-is)
+          (row_kept k c.loop-i-test.true _ refl _ w.if-row-core.true w.copy.ensures _ w.asked_of.ensures)
+      | else-row-core w ↦
+          rw (w.rows-is, w.times-is, w.asked-is, w.count-is, w.parts-is) (row_passed k c.loop-i-test.true _ refl w.if-row-core.false)
+    ]
 
 pub returns : goal.returns
 returns c = ends c.loop-i.invariant c.loop-i-test.false
@@ -214,52 +204,52 @@ pub overflow_add-next : goal.overflow_add-next
 overflow_add-next c = omega (arith, room_there (goal.at.overflow_add-next c).In-loop-i)
 
 pub offset_bounds-from-used : goal.offset_bounds-from-used
-offset_bounds-from-used c = omega (arith, room_there (turn c))
+offset_bounds-from-used c = omega (arith, room_there (goal.at.offset_bounds-from-used c).In-loop-i)
 
 pub slice_bounds-copy-count : goal.slice_bounds-copy-count
-slice_bounds-copy-count c = omega (arith, room_there (turn c))
+slice_bounds-copy-count c = omega (arith, room_there (goal.at.slice_bounds-copy-count c).In-loop-i)
 
 pub slice_bounds-copy-start : goal.slice_bounds-copy-start
-slice_bounds-copy-start c = omega (arith, lent_there (turn (goal.at.slice_bounds-copy-start c).After-struct_known-in-loop-i-1))
+slice_bounds-copy-start c = omega (arith, lent_there (goal.at.slice_bounds-copy-start c).In-loop-i)
 
 pub slice_bounds-copy-end : goal.slice_bounds-copy-end
-slice_bounds-copy-end c = omega (arith, lent_there (turn (goal.at.slice_bounds-copy-end c).After-struct_known-in-loop-i-1))
+slice_bounds-copy-end c = omega (arith, lent_there (goal.at.slice_bounds-copy-end c).In-loop-i)
 
 pub offset_bounds-times-parts : goal.offset_bounds-times-parts
-offset_bounds-times-parts c = omega (arith, room-here (turn (goal.at.offset_bounds-times-parts c).After-struct_known-in-loop-i-1))
+offset_bounds-times-parts c = omega (arith, room-here (goal.at.offset_bounds-times-parts c).In-loop-i)
 
 pub slice_bounds-copy-count-then-row-core : goal.slice_bounds-copy-count-then-row-core
-slice_bounds-copy-count-then-row-core c = omega (arith, room-here (turn (goal.at.slice_bounds-copy-count-then-row-core c).After-struct_known-in-loop-i-1))
+slice_bounds-copy-count-then-row-core c = omega (arith, room-here (goal.at.slice_bounds-copy-count-then-row-core c).In-loop-i)
 
 pub slice_bounds-times-start : goal.slice_bounds-times-start
-slice_bounds-times-start c = omega (arith, room-here (turn (goal.at.slice_bounds-times-start c).After-struct_known-in-loop-i-1))
+slice_bounds-times-start c = omega (arith, room-here (goal.at.slice_bounds-times-start c).In-loop-i)
 
 pub offset_bounds-rows-count : goal.offset_bounds-rows-count
-offset_bounds-rows-count c = omega (arith, place_here (copied c))
+offset_bounds-rows-count c = omega (arith, place_here (goal.at.offset_bounds-rows-count c).In-loop-i)
 
 pub bounds-rows-count : goal.bounds-rows-count
-bounds-rows-count c = place_here (copied c)
+bounds-rows-count c = place_here (goal.at.bounds-rows-count c).In-loop-i
 
 pub offset_bounds-from-used-then-row-core : goal.offset_bounds-from-used-then-row-core
-offset_bounds-from-used-then-row-core c = omega (arith, room_there (copied c))
+offset_bounds-from-used-then-row-core c = omega (arith, room_there (goal.at.offset_bounds-from-used-then-row-core c).In-loop-i)
 
 pub slice_bounds-asked_of-count : goal.slice_bounds-asked_of-count
-slice_bounds-asked_of-count c = omega (arith, room_there (copied c))
+slice_bounds-asked_of-count c = omega (arith, room_there (goal.at.slice_bounds-asked_of-count c).In-loop-i)
 
 pub slice_bounds-asked_of-start : goal.slice_bounds-asked_of-start
-slice_bounds-asked_of-start c = omega (arith, lent_there (copied (goal.at.slice_bounds-asked_of-start c).After-copy))
+slice_bounds-asked_of-start c = omega (arith, lent_there (goal.at.slice_bounds-asked_of-start c).In-loop-i)
 
 pub slice_bounds-asked_of-end : goal.slice_bounds-asked_of-end
-slice_bounds-asked_of-end c = omega (arith, lent_there (copied (goal.at.slice_bounds-asked_of-end c).After-copy))
+slice_bounds-asked_of-end c = omega (arith, lent_there (goal.at.slice_bounds-asked_of-end c).In-loop-i)
 
 pub offset_bounds-asked-count : goal.offset_bounds-asked-count
-offset_bounds-asked-count c = omega (arith, place_here (copied (goal.at.offset_bounds-asked-count c).After-copy))
+offset_bounds-asked-count c = omega (arith, place_here (goal.at.offset_bounds-asked-count c).In-loop-i)
 
 pub bounds-asked-count : goal.bounds-asked-count
-bounds-asked-count c = place_here (copied (goal.at.bounds-asked-count c).After-copy)
+bounds-asked-count c = place_here (goal.at.bounds-asked-count c).In-loop-i
 
 pub overflow_add-count : goal.overflow_add-count
-overflow_add-count c = omega (arith, place_here (copied (goal.at.overflow_add-count c).After-copy))
+overflow_add-count c = omega (arith, place_here (goal.at.overflow_add-count c).In-loop-i)
 
 pub overflow_add-parts : goal.overflow_add-parts
-overflow_add-parts c = omega (arith, room-here (copied (goal.at.overflow_add-parts c).After-copy))
+overflow_add-parts c = omega (arith, room-here (goal.at.overflow_add-parts c).In-loop-i)

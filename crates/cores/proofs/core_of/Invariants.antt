@@ -1,29 +1,18 @@
 -- `cores::core_of` meets its contract. The invariant: the core's rows so far lie in memory, with what is asked of each, and those ahead
 -- follow. Assumes nothing.
-use Prim.Native.Nat.{ℕ, ◌+◌, ◌-◌, ◌*◌, ◌≤◌, ◌<◌}
-use native.Mathlib.Omega.{arith}
-use borrow.Author.Rules.{rules}
-use mathlib.Core.Path.{◌≡◌, refl, sym, ap, ◌∙◌}
-use mathlib.Core.Logic.{⊎_elim}
-use mathlib.Core.List.{List, [], ◌∷◌, ◌++◌, map, map-append, append-nil}
-use lib.ListN.{length, get_or, take, drop, set, length-map}
-use lib.Seq.{sets, append_snoc}
-use Rattle.lists.specs.Lists.{each, pad_to, total, sum}
-use Rattle.lists.proofs.Sums.{sum-most}
-use Rattle.lists.proofs.Pads.{set-pad}
-use Rattle.model.specs.Task.{Task, parts, part}
-use Rattle.model.specs.Rows.{GoodTask}
+use Prim.Native.Nat.{ℕ, ◌-◌, ◌≤◌}
+use mathlib.Core.Path.{◌≡◌}
+use mathlib.Core.List.{List, ◌++◌, map}
+use Rattle.lists.specs.Lists.{pad_to}
+use Rattle.model.specs.Task.{Task}
 use Rattle.model.specs.Bounds.{on_core}
-use Rattle.model.proofs.Cores.{core_none, core_first, core_other}
 use Rattle.table.specs.declared.Row.{Row}
 use Rattle.table.specs.declared.Table.{Table}
-use Rattle.table.specs.Memory.{zero_row, task_of, tasks_of}
-use Rattle.table.proofs.Rows.{length_mapped}
-use Rattle.table.proofs.Laid.{Laid, laid_stored, times_long, behind-length, laid_more}
-use Rattle.table.proofs.Ahead.{Ahead, lent, Next, next, none_ahead, good_ahead}
+use Rattle.table.specs.Memory.{tasks_of}
+use Rattle.table.proofs.Laid.{Laid}
+use Rattle.table.proofs.Ahead.{Ahead}
 use Rattle.cores.specs.declared.Asked.{Asked}
-use Rattle.cores.specs.Cores.{asked_of, asked_nothing, core_of}
-use Rattle.table.proofs.Stored.{times-count}
+use Rattle.cores.specs.Cores.{asked_of, asked_nothing}
 use Rattle.cores.proofs.core_of.Given as goal
 
 -- `mine` are the core's rows so far

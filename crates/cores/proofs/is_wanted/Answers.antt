@@ -1,5 +1,4 @@
 -- `cores::is_wanted` meets its contract, by the two cases. Assumes nothing.
-use borrow.Author.Rules.{rules}
 use Rattle.cores.specs.Promises.{is_wanted}
 use Rattle.cores.proofs.is_wanted.Goals as goal
 

@@ -1,11 +1,10 @@
 -- `cores::longest_below` meets its contract. The invariant: the longest so far and the longest of the others give the longest of all.
 -- Assumes nothing.
-use Prim.Native.Nat.{ℕ, ◌+◌, ◌-◌, ◌≤◌, ◌<◌, max}
+use Prim.Native.Nat.{ℕ, ◌+◌, ◌≤◌, ◌<◌, max}
 use native.Mathlib.Omega.{arith}
 use borrow.Author.Rules.{rules}
 use borrow.Author.Tests.{lt-ltb, le-ltb}
 use mathlib.Core.Path.{◌≡◌}
-use mathlib.Core.Logic.{⊎_elim}
 use mathlib.Core.List.{List, ◌∷◌}
 use lib.ListN.{length, get_or, take, drop, length-take, drop_of_length-le}
 use Rattle.lists.specs.Lists.{keep, largest}
@@ -14,7 +13,7 @@ use Rattle.table.proofs.Rows.{length_mapped}
 use Rattle.cores.specs.declared.Asked.{Asked}
 use Rattle.cores.specs.Cores.{asked_nothing}
 use Rattle.cores.specs.Promises.{longest_below}
-use Rattle.cores.proofs.longest_below.Goals.{In-loop-i}
+use Rattle.cores.proofs.longest_below.Goals.{In-loop-i, then-a-priority, else-a-priority}
 use Rattle.cores.proofs.longest_below.Goals as goal
 
 module _ {p : ℕ} {a : Asked} {rows more : List Asked} (next : rows ≡ a ∷ more) where
@@ -37,23 +36,23 @@ none_left p count i rows h =
 
 -- the row that is looked at is the next one
 next_row : (c : In-loop-i) →
-    let c.before.before = c.args in
+    let s = c.args in
     let i = c.loop-i.i in
-    drop i (take c.count c.t1) ≡ get_or c.t1 i asked_nothing ∷ drop (i + 1) (take c.count c.t1)
+    drop i (take s.count s.asked) ≡ get_or s.asked i asked_nothing ∷ drop (i + 1) (take s.count s.asked)
 next_row c =
-    let long : length c.args.t1 ≡ 64 = search (rules, length_mapped) in
-    taken_more asked_nothing c.args.count c.args.t1 c.loop-i.i c.loop-i-test.true (omega arith)
+    let long : length c.args.asked ≡ 64 = search (rules, length_mapped) in
+    taken_more asked_nothing c.args.count c.args.asked c.loop-i.i c.loop-i-test.true (omega arith)
 
 pub loop-i-preserved : goal.loop-i-preserved
 loop-i-preserved c =
     let next = next_row (goal.at.loop-i-preserved c).In-loop-i in
-    ⊎_elim
-    (λ w. omega (arith, lower-row next w.0.taken, c.loop-i.invariant, w.1.ensures, w.2))
-    (λ w. omega (arith, other_row next w.0.left, c.loop-i.invariant, w.1))
-    c.if-a-priority.branch
+    elim c.if-a-priority.branch [
+      | then-a-priority w ↦ omega (arith, lower-row next w.if-a-priority.true, c.loop-i.invariant, w.larger-most.ensures, w.most-is)
+      | else-a-priority w ↦ omega (arith, other_row next w.if-a-priority.false, c.loop-i.invariant, w.most-is)
+    ]
 
 pub returns : goal.returns
 returns c =
     let s = c.args in
-    let none = none_left s.priority s.count c.loop-i.i s.t1 c.loop-i-test.false in
+    let none = none_left s.priority s.count c.loop-i.i s.asked c.loop-i-test.false in
     omega (arith, c.loop-i.invariant, none)

@@ -25,18 +25,18 @@ put_behind first more old new end h p =
     record { room = q.room ∙ over-twice first more old; ends = q.ends }
 
 -- the row that is read is row `own` of those asked about
-own_is : (s : Start) → asked_at (take s.args.count s.args.t1) s.args.own ≡ get_or s.args.t1 s.args.own asked_nothing
-own_is s = get_or-take s.args.count s.args.t1 s.args.own asked_nothing s.requires.0.0
+own_is : (s : Start) → asked_at (take s.args.count s.args.asked) s.args.own ≡ get_or s.args.asked s.args.own asked_nothing
+own_is s = get_or-take s.args.count s.args.asked s.args.own asked_nothing s.requires.own_lt_count.0
 
 -- there is room for its numbers and those of the higher rows
 own-fits : (s : Start) →
-    let a = get_or s.args.t1 s.args.own asked_nothing in
-    2 + length (wanted_loads (Above a.priority) (take s.args.count s.args.t1)) ≤ 128
+    let a = get_or s.args.asked s.args.own asked_nothing in
+    2 + length (wanted_loads (Above a.priority) (take s.args.count s.args.asked)) ≤ 128
 unfolding each
 own-fits s =
-    let rows = take s.args.count s.args.t1 in
-    let long : length s.args.t1 ≡ 64 = search (rules, length_mapped) in
-    let used : length rows ≡ s.args.count = length-take-le s.args.count s.args.t1 (omega arith) in
+    let rows = take s.args.count s.args.asked in
+    let long : length s.args.asked ≡ 64 = search (rules, length_mapped) in
+    let used : length rows ≡ s.args.count = length-take-le s.args.count s.args.asked (omega arith) in
     let most = rw (own_is s) at (own-most rows s.args.own (omega arith)) in
     omega arith
 
@@ -49,11 +49,8 @@ put_loads-requires c = record {
 pub returns : goal.returns
 unfolding each
 returns c =
-    let first = asked_load (get_or c.args.t1 c.args.own asked_nothing) in
+    let first = asked_load (get_or c.args.asked c.args.own asked_nothing) in
     rw (own_is (goal.at.returns c).Start) (put_behind first _ c.args.out.now _ _ (omega (arith, c.requires.in_bounds)) c.put_loads.ensures)
 
 pub bounds-out-1 : goal.bounds-out-1
 bounds-out-1 c = simp length-set (omega arith)
-
-pub shape_of-out : goal.shape_of-out
-shape_of-out c = c.put_loads.auto.1.1.1.1.0 ∙ simp length-set

@@ -1,12 +1,11 @@
 -- `cores::put_loads` meets its contract. The invariant: the numbers of the rows so far stand in front, and those of the others follow.
 -- Assumes nothing.
-use Prim.Native.Nat.{ℕ, ◌+◌, ◌-◌, ◌≤◌}
+use Prim.Native.Nat.{ℕ, ◌+◌, ◌≤◌, ◌<◌}
 use native.Mathlib.Numerals.{add-one}
 use native.Mathlib.Omega.{arith}
 use borrow.Author.Rules.{rules}
 use mathlib.Core.Path.{◌≡◌, refl, sym, ap, ◌∙◌}
 use mathlib.Core.Bool.{true, false}
-use mathlib.Core.Logic.{⊎_elim}
 use mathlib.Core.List.{List, [], ◌∷◌, ◌++◌, append_assoc, append-nil}
 use lib.ListN.{length, get_or, take, drop, set, length-set, length-append, length-take, drop_of_length-le}
 use lib.Seq.{length-take-le}
@@ -20,7 +19,7 @@ use Rattle.cores.specs.Cores.{asked_nothing}
 use Rattle.cores.specs.Promises.{is_wanted, asked_load, wanted_loads, PutInFront}
 use Rattle.cores.proofs.Wanted.{wanted_yes, wanted_no}
 use Rattle.cores.proofs.put_loads.Invariants.{Putting}
-use Rattle.cores.proofs.put_loads.Goals.{In-loop-i, Then-is_wanted}
+use Rattle.cores.proofs.put_loads.Goals.{Then-is_wanted, then-is_wanted, else-is_wanted}
 use Rattle.cores.proofs.put_loads.Goals as goal
 
 module _ {which : Which} {rows : List Asked} {at : ℕ} {old out : List ℕ} {end i : ℕ} (p : Putting which rows at old out end i) where
@@ -84,20 +83,18 @@ module _ {which : Which} {rows : List Asked} {at : ℕ} {old out : List ℕ} {en
       rw all p.put
 
 -- the row that is looked at is the next one
-next_row : (c : In-loop-i) →
-    let c.before.before.before = c.args in
-    let i = c.loop-i.i in
-    drop i (take c.count c.t1) ≡ get_or c.t1 i asked_nothing ∷ drop (i + 1) (take c.count c.t1)
-next_row c =
-    let long : length c.args.t1 ≡ 64 = search (rules, length_mapped) in
-    taken_more asked_nothing c.args.count c.args.t1 c.loop-i.i c.loop-i-test.true (omega arith)
+next_row : (asked : List Asked) (count i : ℕ) → length asked ≡ 64 → count ≤ 64 → i < count
+    → drop i (take count asked) ≡ get_or asked i asked_nothing ∷ drop (i + 1) (take count asked)
+next_row asked count i long few h = taken_more asked_nothing count asked i h (omega arith)
 
 -- two numbers have room, in the lent room as it was
 roomy : (c : Then-is_wanted) →
     (c.loop-i.end + 2 ≤ length c.loop-i.out) × (length c.loop-i.out ≡ length c.args.out.now)
 roomy c =
+    let s = c.args in
     let p = c.loop-i.invariant in
-    (room_for_two p (next_row c.before.before.before) (sym c.is_wanted.ensures ∙ c.if-is_wanted.true), room-length p)
+    let next = next_row s.asked s.count c.loop-i.i (search (rules, length_mapped)) c.requires.count_bound c.loop-i-test.true in
+    (room_for_two p next (sym c.is_wanted.ensures ∙ c.if-is_wanted.true), room-length p)
 
 pub loop-i-init : goal.loop-i-init
 loop-i-init c =
@@ -116,33 +113,35 @@ loop-i-init c =
 pub loop-i-preserved : goal.loop-i-preserved
 loop-i-preserved c =
     let p = c.loop-i.invariant in
-    ⊎_elim
-    (λ w. rw (w.1, w.2) (row_put p (next_row (goal.at.loop-i-preserved c).In-loop-i) (sym c.is_wanted.ensures ∙ w.0.taken)))
-    (λ w. rw (w.1, w.2) (row_passed p (next_row (goal.at.loop-i-preserved c).In-loop-i) (sym c.is_wanted.ensures ∙ w.0.left)))
-    c.if-is_wanted.branch
+    let s = c.args in
+    let next = next_row s.asked s.count c.loop-i.i (search (rules, length_mapped)) c.requires.count_bound c.loop-i-test.true in
+    elim c.if-is_wanted.branch [
+      | then-is_wanted w ↦ rw (w.out-is, w.end-is) (row_put p next (sym c.is_wanted.ensures ∙ w.if-is_wanted.true))
+      | else-is_wanted w ↦ rw (w.out-is, w.end-is) (row_passed p next (sym c.is_wanted.ensures ∙ w.if-is_wanted.false))
+    ]
 
 pub returns : goal.returns
 returns c =
     let s = c.args in
-    ends c.loop-i.invariant (omega (arith, length-take s.count s.t1, c.loop-i-test.false))
+    ends c.loop-i.invariant (omega (arith, length-take s.count s.asked, c.loop-i-test.false))
 
 pub offset_bounds-out-end : goal.offset_bounds-out-end
-offset_bounds-out-end c = omega (arith, roomy c)
+offset_bounds-out-end c = omega (arith, roomy (goal.at.offset_bounds-out-end c).Then-is_wanted)
 
 pub bounds-out-end : goal.bounds-out-end
-bounds-out-end c = omega (arith, roomy c)
+bounds-out-end c = omega (arith, roomy (goal.at.bounds-out-end c).Then-is_wanted)
 
 pub overflow_add-out : goal.overflow_add-out
-overflow_add-out c = omega (arith, roomy c)
+overflow_add-out c = omega (arith, roomy (goal.at.overflow_add-out c).Then-is_wanted)
 
 pub offset_bounds-out-end-then-is_wanted : goal.offset_bounds-out-end-then-is_wanted
-offset_bounds-out-end-then-is_wanted c = omega (arith, roomy c)
+offset_bounds-out-end-then-is_wanted c = omega (arith, roomy (goal.at.offset_bounds-out-end-then-is_wanted c).Then-is_wanted)
 
 pub bounds-out-end-then-is_wanted : goal.bounds-out-end-then-is_wanted
-bounds-out-end-then-is_wanted c = simp length-set (omega (arith, roomy c))
+bounds-out-end-then-is_wanted c = simp length-set (omega (arith, roomy (goal.at.bounds-out-end-then-is_wanted c).Then-is_wanted))
 
 pub overflow_add-end : goal.overflow_add-end
-overflow_add-end c = omega (arith, roomy c)
+overflow_add-end c = omega (arith, roomy (goal.at.overflow_add-end c).Then-is_wanted)
 
 pub shape_of-out : goal.shape_of-out
 shape_of-out c = room-length c.loop-i.invariant

@@ -1,24 +1,12 @@
 -- `cores::put_loads` meets its contract. The invariant: the numbers of the rows so far stand in front, and those of the others follow.
 -- Assumes nothing.
 use Prim.Native.Nat.{ℕ, ◌+◌, ◌-◌, ◌≤◌}
-use native.Mathlib.Numerals.{add-one}
-use native.Mathlib.Omega.{arith}
-use borrow.Author.Rules.{rules}
-use mathlib.Core.Path.{◌≡◌, refl, sym, ap, ◌∙◌}
-use mathlib.Core.Bool.{true, false}
-use mathlib.Core.Logic.{⊎_elim}
-use mathlib.Core.List.{List, [], ◌∷◌, ◌++◌, append_assoc, append-nil}
-use lib.ListN.{length, get_or, take, drop, set, length-set, length-append, length-take, drop_of_length-le}
-use lib.Seq.{length-take-le}
-use Rattle.lists.specs.Lists.{keep, each, over}
-use Rattle.lists.proofs.Overs.{over-length, over_more}
-use Rattle.lists.proofs.Walks.{taken_more, over-front}
-use Rattle.table.proofs.Rows.{length_mapped}
+use mathlib.Core.Path.{◌≡◌}
+use mathlib.Core.List.{List, ◌++◌}
+use lib.ListN.{length, take, drop}
 use Rattle.cores.specs.declared.Asked.{Asked}
 use Rattle.cores.specs.declared.Which.{Which}
-use Rattle.cores.specs.Cores.{asked_nothing}
-use Rattle.cores.specs.Promises.{is_wanted, asked_load, wanted_loads, PutInFront}
-use Rattle.cores.proofs.Wanted.{wanted_yes, wanted_no}
+use Rattle.cores.specs.Promises.{wanted_loads, PutInFront}
 use Rattle.cores.proofs.put_loads.Given as goal
 
 -- `done` are the numbers so far, behind what stood in front of `at`

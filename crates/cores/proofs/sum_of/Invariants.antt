@@ -1,12 +1,8 @@
 -- `cores::sum_of` meets its contract. The invariant: the sum so far is that of the first i times. Assumes nothing.
-use Prim.Native.Nat.{suc, ◌-◌, ◌≤◌}
-use native.Mathlib.Numerals.{add-one}
-use native.Mathlib.Omega.{arith}
-use borrow.Author.Rules.{rules}
-use mathlib.Core.Path.{◌≡◌, refl, ◌∙◌}
+use Prim.Native.Nat.{◌-◌, ◌≤◌}
+use mathlib.Core.Path.{◌≡◌}
 use lib.ListN.{length, take}
 use Rattle.lists.specs.Lists.{sum}
-use Rattle.lists.proofs.Sums.{sum-suc, sum-take, sum-all}
 use Rattle.cores.proofs.sum_of.Given as goal
 
 abbrev pub invariant-loop-i : goal.invariant-loop-i
