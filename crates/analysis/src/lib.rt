@@ -1,4 +1,6 @@
 // One core's answer: what is said of it, and its bounds in lent room.
+#![tactic(auto)]
+
 ghost use Rattle.std.specs.Prelude.{◌≡◌, ◌≤◌, ◌<◌, length, take, ltb};
 ghost use Rattle.lists.specs.Lists.{pick};
 ghost use Rattle.table.specs.Verdicts.{code_of};

@@ -23,7 +23,7 @@ pub struct Asked {
 }
 
 // One core's rows in table order, as a table of their own, and what the searches ask of each; `parts` is how many parts they have.
-#[derive(Drop)]
+#[derive(Clone, Copy)]
 pub struct Core {
     pub own: Table,
     pub parts: usize,

@@ -1,7 +1,6 @@
 -- `analysis::analyse_core` meets its contract: 10, then 11 with nothing written, then what the bounds say. Assumes nothing.
 use Prim.Native.Nat.{ℕ, ◌≤◌, ◌<◌}
 use native.Mathlib.Omega.{arith}
-use borrow.Author.Rules.{rules}
 use borrow.Author.Tests.{lt-ltb, le-ltb}
 use mathlib.Core.Path.{◌≡◌, refl, sym, ap, ◌∙◌}
 use mathlib.Core.List.{List, map}
@@ -18,8 +17,7 @@ use Rattle.analysis.specs.Analysis.{needed, named, writes, room_said}
 use Rattle.analysis.specs.Promises.{window_length, Windows, ToBound}
 use Rattle.analysis.proofs.Said.{no_window_lem, all-windows, missed, none_missed}
 use Rattle.analysis.proofs.Given.{gives_none, gives_all}
-use Rattle.analysis.proofs.analyse_core.Statement.{statement}
-use Rattle.analysis.proofs.analyse_core.Tie as tie
+use Rattle.analysis.proofs.analyse_core.Goals as goal
 
 module _ {c : Core} (k : IsCore c) where
   -- the room that is needed is counted
@@ -52,70 +50,38 @@ module _ {c : Core} (k : IsCore c) where
         enough = omega (arith, parts-needed);
       }
 
-returns : tie.Need-returns
+pub returns-then-room-needed : goal.returns-then-room-needed
+unfolding writes
+returns-then-room-needed c =
+    let k = c.requires in
+    gives_none _ _ _ _ (short k _ c.if-room-needed.true) refl c.refused.ensures
+
+pub returns-then-none-ne0 : goal.returns-then-none-ne0
+unfolding writes
+returns-then-none-ne0 c =
+    let k = c.requires in
+    gives_none _ _ _ _
+    (enough k _ c.if-room-needed.false ∙ no_window_lem _ k.good.good _ c.windows-none.ensures.names c.if-none-ne0.true)
+    refl c.refused-then-none-ne0.ensures
+
+pub core_bounds-late-requires : goal.core_bounds-late-requires
+core_bounds-late-requires c =
+    to_bound c.requires _ _ _ _ c.windows-none.ensures c.if-none-ne0.false c.if-room-needed.false
+
+pub returns-then-late-ne0 : goal.returns-then-late-ne0
+unfolding writes
+returns-then-late-ne0 c =
+    let k = c.requires in
+    let windows = all-windows _ k.good.good _ c.windows-none.ensures.names c.if-none-ne0.false in
+    gives_all _ _ _ _
+    (enough k _ c.if-room-needed.false ∙ missed _ k.good.good _ windows c.core_bounds-late.ensures.names c.if-late-ne0.true)
+    refl _ _ (parts-needed k) c.core_bounds-late.ensures.left
+
+pub returns : goal.returns
 unfolding writes
 returns c =
-    let k = c.before.before.before.requires in
-    gives_none _ _ _ _ (short k _ c.before.if1.true) refl c.refused.ensures
-
-returns-2 : tie.Need-returns-2
-unfolding writes
-returns-2 c =
-    let call = c.before.before.before in
-    let some = call.before.before in
-    let k = some.before.before.requires in
-    gives_none _ _ _ _
-    (enough k _ some.if1.false ∙ no_window_lem _ k.good.good _ call.windows.ensures.names c.before.if2.true)
-    refl c.refused2.ensures
-
-core-bounds-requires : tie.Need-core-bounds-requires
-core-bounds-requires c κs =
-    let none = c.before.before in
-    let call = none.before.before in
-    let some = call.before.before in
-    to_bound some.before.before.requires _ _ _ _ call.windows.ensures none.if2.false some.if1.false
-
-returns-3 : tie.Need-returns-3
-unfolding writes
-returns-3 c =
-    let bounds = c.before.before.before in
-    let none = bounds.before.before.before in
-    let call = none.before.before in
-    let some = call.before.before in
-    let k = some.before.before.requires in
-    let windows = all-windows _ k.good.good _ call.windows.ensures.names none.if2.false in
+    let k = c.requires in
+    let windows = all-windows _ k.good.good _ c.windows-none.ensures.names c.if-none-ne0.false in
     gives_all _ _ _ _
-    (enough k _ some.if1.false ∙ missed _ k.good.good _ windows bounds.core-bounds.ensures.names c.if3.true)
-    refl _ _ (parts-needed k) bounds.core-bounds.ensures.left
-
-returns-4 : tie.Need-returns-4
-unfolding writes
-returns-4 c =
-    let bounds = c.before.before.before in
-    let none = bounds.before.before.before in
-    let call = none.before.before in
-    let some = call.before.before in
-    let k = some.before.before.requires in
-    let windows = all-windows _ k.good.good _ call.windows.ensures.names none.if2.false in
-    gives_all _ _ _ _
-    (enough k _ some.if1.false ∙ none_missed _ k.good.good _ windows bounds.core-bounds.ensures.names c.if3.false)
-    refl _ _ (parts-needed k) bounds.core-bounds.ensures.left
-
-pub analyse_core_spec : {M : Type 1} → statement M
-analyse_core_spec =
-    tie.close
-    (tie.spec
-    (λ c κs. search rules)
-    returns
-    (λ c. search rules)
-    (λ c κs. search rules)
-    (λ c. search rules)
-    (λ c κs. search rules)
-    returns-2
-    (λ c. search rules)
-    core-bounds-requires
-    (λ c. search rules)
-    (λ c. search rules)
-    returns-3
-    (λ c. search rules)
-    returns-4)
+    (enough k _ c.if-room-needed.false ∙ none_missed _ k.good.good _ windows c.core_bounds-late.ensures.names c.if-late-ne0.false)
+    refl _ _ (parts-needed k) c.core_bounds-late.ensures.left
