@@ -1,5 +1,6 @@
 // Numbers as a file has them, in groups of seven bits: read one, size one, put one.
 #![tactic(auto)]
+
 ghost use Rattle.std.specs.Prelude.{◌≡◌, length, set};
 ghost use Rattle.numbers.specs.Numbers.{number_at, encode, Put};
 
