@@ -1,5 +1,6 @@
 // Bytes that people read, put at a place of lent bytes, one after another: inner workings of what prints, each with a `requires` for room.
 #![tactic(auto)]
+
 ghost use Rattle.std.specs.Prelude.{◌<◌, [], ◌∷◌, ◌++◌, map, length};
 ghost use Rattle.text.specs.Text.{decimal, joined};
 ghost use Rattle.text.specs.Promises.{Fits, PutAt};
