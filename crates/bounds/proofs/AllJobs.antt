@@ -9,7 +9,7 @@ use Rattle.lists.specs.Lists.{each, listed}
 use Rattle.lists.proofs.Listed.{listed_is, listed_at, listed-length}
 use Rattle.model.specs.Task.{cost, parts}
 use Rattle.model.specs.Least.{value, max_below}
-use Rattle.model.specs.Bounds.{up, cooperative, before, higher, blocking, window, jobs, response, bound, row_bounds}
+use Rattle.model.specs.Bounds.{up, before, higher, blocking, jobs, response, bound, row_bounds}
 use Rattle.model.proofs.Rounding.{before_is, before_more, before-least}
 use Rattle.model.proofs.Rows.{period_pos}
 use Rattle.model.proofs.Exists.{window-most, inside}

@@ -1,4 +1,6 @@
 // Comma-separated lines of a spreadsheet: read into a table in memory, and written from one.
+#![tactic(auto)]
+
 ghost use Rattle.std.specs.Prelude.{◌≤◌, ◌≡◌, length};
 ghost use Rattle.text.specs.Promises.{Fits, PutAt};
 ghost use Rattle.table.specs.Verdicts.{code_of};

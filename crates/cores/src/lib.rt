@@ -1,4 +1,6 @@
 // One core of a table as one value, and from what the searches ask of its rows: the rows of a sum, and the blocking.
+#![tactic(auto)]
+
 ghost use Rattle.std.specs.Prelude.{◌≡◌, ◌++◌, ◌+◌, ◌≤◌, ◌<◌, length, take};
 ghost use Rattle.lists.specs.Lists.{sum, largest};
 ghost use Rattle.model.specs.Bounds.{on_core};
@@ -11,7 +13,7 @@ ghost use Rattle.cores.specs.Promises.{is_wanted, wanted_loads, PutInFront, own_
 use table::{Row, Table};
 
 // What the searches ask of a row.
-#[derive(Drop)]
+#[derive(Clone, Copy)]
 pub struct Asked {
     pub kind: u32,
     pub priority: u32,
@@ -29,7 +31,7 @@ pub struct Core {
 }
 
 // Which rows a sum is over: those with a priority above this, or the preemptive ones.
-#[derive(Drop)]
+#[derive(Clone, Copy)]
 pub enum Which {
     Above(u32),
     Preemptive,

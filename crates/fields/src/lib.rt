@@ -1,4 +1,6 @@
 // Stepping through wanted numbers, of a file or of a line of text: read the next one, or stop at its fault.
+#![tactic(auto)]
+
 ghost use Rattle.std.specs.Prelude.{◌+◌, ◌*◌, ◌≤◌, ◌<◌, min, ◌≡◌, [], length, get_or};
 ghost use Rattle.table.specs.Fields.{head, want, wanted, LowsHighs};
 ghost use Rattle.fields.specs.Stepping.{field_at, fields_at};
@@ -46,7 +48,7 @@ enum Ended {
 }
 
 // How numbers stand one after another: in a file's seven-bit groups, or in a line of text, a comma behind each.
-#[derive(Drop)]
+#[derive(Clone, Copy)]
 pub enum Way {
     Seven,
     Commas,

@@ -12,7 +12,7 @@ use Rattle.lists.proofs.Tests.{by_test}
 use Rattle.numbers.specs.Numbers.{Bytes, encode_all}
 use Rattle.model.specs.Task.{Task}
 use Rattle.table.specs.declared.Verdict.TheVariants.{Trailing}
-use Rattle.table.specs.Verdicts.{code_of, good}
+use Rattle.table.specs.Verdicts.{code_of}
 use Rattle.table.specs.Fields.{field, time}
 use Rattle.table.specs.Memory.{all_times, rows_of}
 use Rattle.table.specs.Clash.{clash_of}

@@ -10,7 +10,7 @@ use Rattle.table.specs.declared.Table.{Table}
 use Rattle.table.specs.declared.Verdict.{Verdict}
 use Rattle.table.specs.declared.Verdict.TheVariants.{Good}
 use Rattle.table.specs.declared.Written.{Written}
-use Rattle.table.specs.Verdicts.{code_of, good}
+use Rattle.table.specs.Verdicts.{code_of}
 use Rattle.table.specs.Memory.{stored, tasks_of}
 use Rattle.table.specs.Faults.{fault_of}
 use Rattle.table.specs.Written.{Writes}

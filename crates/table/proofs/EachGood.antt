@@ -1,5 +1,5 @@
 -- Each task of a good table is a good task. Assumes nothing.
-use Prim.Native.Nat.{ℕ, zero, suc, ◌<◌}
+use Prim.Native.Nat.{ℕ, ◌+◌, zero, suc, ◌<◌}
 use native.Mathlib.Omega.{arith}
 use mathlib.Core.Path.{◌≡◌}
 use mathlib.Core.List.Memᴰ
@@ -43,8 +43,9 @@ fine_good-task used u f =
 -- so are tasks that are fine one after another
 fine_each : (used : ℕ) (ts : List Task) → FineTasks used ts → (u : Task) → u ∈ ts → GoodTask u
 unfolding FineTasks
-fine_each used ts f u (Memᴰ.head {x = t} {xs = us} e) = rw e (fine_good-task used t f.0)
-fine_each used ts f u (Memᴰ.tail {x = t} {xs = us} m) = fine_each _ us f.1 u m
+fine_each used [] f u m = elim m [ ]
+fine_each used (t ∷ us) f u (Memᴰ.head e) = rw e (fine_good-task used t f.0)
+fine_each used (t ∷ us) f u (Memᴰ.tail m) = fine_each (used + length (t.times)) us f.1 u m
 
 -- and those of a table without a fault
 pub each-good : (t : Table) → length t.rows ≡ 64 → length t.times ≡ 1024 → code_of (fault_of t) ≡ 0

@@ -25,9 +25,10 @@ module _ {A : Type 0} where
   -- where none passes, each fails
   none_passes : (p : A → Bool) (xs : List A) → any p xs ≡ false → (x : A) → x ∈ xs → p x ≡ false
   unfolding any
-  none_passes p xs e x (Memᴰ.head {x = y} {xs = ys} q) =
+  none_passes p [] e x m = elim m [ ]
+  none_passes p (y ∷ ys) e x (Memᴰ.head q) =
       by_test (p y) (λ t. absurd (never refl (rw t at e))) (λ t. ap p q ∙ t)
-  none_passes p xs e x (Memᴰ.tail {x = y} {xs = ys} m) =
+  none_passes p (y ∷ ys) e x (Memᴰ.tail m) =
       by_test (p y) (λ t. absurd (never refl (rw t at e))) (λ t. none_passes p ys (rw t at e) x m)
 
   -- elements none of which clashes

@@ -4,7 +4,6 @@ use mathlib.Core.Path.{◌≡◌, ap, ◌∙◌}
 use mathlib.Core.Bool.{true}
 use mathlib.Core.List.{List}
 use native.Mathlib.Omega.{arith}
-use borrow.Author.Rules.{rules}
 use Rattle.model.specs.Least.{value}
 use Rattle.bounds.specs.declared.PartEnd.{PartEnd}
 use Rattle.bounds.specs.Loads.{work_at, solution}
@@ -37,7 +36,7 @@ both highers preempts base from time y w e p q r = rw (r, q, p)
 pub search-requires : goal.search-requires
 search-requires c =
     let a = c.requires in
-    (highers_summed a, (omega (arith, sums_small a), begins a _))
+    record { summable = highers_summed a; base_bound = omega (arith, sums_small a); from_bound = begins a _ }
 
 pub work-requires : goal.work-requires
 work-requires c = record {
@@ -46,10 +45,9 @@ work-requires c = record {
 }
 
 pub search-requires-2 : goal.search-requires-2
-search-requires-2 c = (
-  preemptives_summed c.requires,
-  (omega (arith, (range (goal.at.search-requires-2 c).After-value_of-after).early), rw c.work.ensures (range (goal.at.search-requires-2 c).After-value_of-after).begins),
-)
+search-requires-2 c =
+    let g = range (goal.at.search-requires-2 c).After-value_of-after in
+    record { summable = preemptives_summed c.requires; base_bound = omega (arith, g.early); from_bound = rw c.work.ensures g.begins }
 
 pub returns : goal.returns
 returns c =

@@ -5,20 +5,18 @@ use mathlib.Core.Bool.{Bool}
 use mathlib.Core.List.{List}
 use native.Mathlib.Numerals.{add-one}
 use native.Mathlib.Omega.{arith}
-use borrow.Author.Rules.{rules}
 use lib.ListN.{length, get_or, set}
-use Rattle.lists.specs.Lists.{sum, listed, over}
+use Rattle.lists.specs.Lists.{sum, listed}
 use Rattle.lists.proofs.Sums.{sum-suc}
 use Rattle.lists.proofs.Listed.{listed-length}
 use Rattle.lists.proofs.Overs.{over_none, over-length}
 use Rattle.lists.proofs.ListedOvers.{over-listed-at, over-listed-set, over-listed-all}
 use Rattle.bounds.specs.declared.Job.{Job}
 use Rattle.bounds.specs.declared.PartEnd.{PartEnd}
-use Rattle.bounds.specs.Promises.{JobLeft, end_of_part, base_at, from_at, raised_at}
+use Rattle.bounds.specs.Promises.{AtJob, JobLeft, end_of_part, base_at, from_at, raised_at}
 use Rattle.bounds.proofs.Walk.{sums_small}
 use Rattle.bounds.proofs.Jobs.{at_part, end_range}
 use Rattle.bounds.proofs.job_parts.Invariants.{PartsDone}
-use Rattle.bounds.proofs.job_parts.Goals.{After-larger, After-part_end-part, In-loop-r, Start}
 use Rattle.bounds.proofs.job_parts.Goals as goal
 
 -- before the first part nothing is raised
@@ -34,6 +32,10 @@ module _ {highers preempts : List ℕ} {coop : Bool} {job : Job} {times old new 
   kept : length new ≡ length old
   kept = ap length s.bounds ∙ over-length _ old (rw listed-length (omega (arith, s.few)))
 
+  -- there is a bound for each part
+  room : r < length times → r < length new
+  room h = omega (arith, same, kept, h)
+
   -- after the last part all are raised
   all-raised : length times ≤ r → JobLeft highers preempts coop job times old new at
   all-raised past =
@@ -47,6 +49,11 @@ module _ {highers preempts : List ℕ} {coop : Bool} {job : Job} {times old new 
     -- what part r's searches answer
     answered : p ≡ end_of_part highers preempts coop (base_at job times r) (from_at highers preempts coop job times r) (get_or times r 0)
     answered = ends ∙ ap₂ (λ (b f : ℕ). end_of_part highers preempts coop b f (get_or times r 0)) s.base s.from
+
+    module _ (a : AtJob highers preempts coop job times) where
+      -- it lies after the release and within the limit
+      range : (job.release ≤ p.end) × (p.end ≤ 16777215)
+      range = rw (ap (λ e. e.end) answered) (end_range a r h)
 
     -- the walk goes on
     one_more : (v : ℕ) → v ≡ max (get_or new r 0) (p.end - job.release)
@@ -67,77 +74,43 @@ module _ {highers preempts : List ℕ} {coop : Bool} {job : Job} {times old new 
             ∙ ap₂ (λ (b e : ℕ). max b (e - job.release))
             (ap (λ (l : List ℕ). get_or l r 0) s.bounds ∙ over-listed-at _ old r 0) (ap (λ e. e.end) answered)
 
--- the function's entry, as the loop sees it
-abbrev called : In-loop-r → Start
-called c = c.before.before.before.before.before.before
-
--- the turn that a bound is stored in
-abbrev turned : After-larger → In-loop-r
-turned c = c.before.before.before.before.before.before
-
--- the part's end lies after the release and within the limit
-range : (c : After-part_end-part)
-    → ((called c.before.before).args.job.release ≤ c.part_end-part.result.end) × (c.part_end-part.result.end ≤ 16777215)
-range c =
-    let s = c.loop-r.invariant in
-    let h = c.loop-r-test.true in
-    let q = end_range (called c.before.before).pre.0 c.loop-r.r h in
-    let is = answered s (called c.before.before).pre.1 h c.part_end-part.result c.part_end-part.ensures in
-    rw (ap (λ e. e.end) is) q
-
--- there is a bound for each part
-room : (c : In-loop-r) → c.loop-r.r < length c.loop-r.bounds
-room c =
-    let same = (called c).requires.1 in
-    omega (arith, same, kept c.loop-r.invariant same, c.loop-r-test.true)
-
 pub loop-r-init : goal.loop-r-init
 loop-r-init c = none_done _ _ _ _ _ _
 
 pub part_end-part-requires : goal.part_end-part-requires
 part_end-part-requires c =
     let s = c.loop-r.invariant in
-    rw (s.base, s.from) (at_part (called (goal.at.part_end-part-requires c).In-loop-r).pre.0 c.loop-r.r c.loop-r-test.true)
+    rw (s.base, s.from) (at_part c.requires.at_job c.loop-r.r c.loop-r-test.true)
 
 pub overflow_add-done : goal.overflow_add-done
 overflow_add-done c =
-    let d = turned c in
-    let small = sums_small (at_part (called d).pre.0 d.before.loop.r d.loop-test.taken) in
-    omega (arith, small.0, d.before.loop.inv.base)
+    let small = sums_small (at_part c.requires.at_job c.loop-r.r c.loop-r-test.true) in
+    omega (arith, small.0, c.loop-r.invariant.base)
 
 pub loop-r-preserved : goal.loop-r-preserved
 loop-r-preserved c =
-    let d = turned c in
     let e = c.part_end-part in
-    one_more d.before.loop.inv (called d).pre.1 d.loop-test.taken e.result e.ensures c.larger.result
+    one_more c.loop-r.invariant c.requires.bounds_len c.loop-r-test.true e.result e.ensures c.larger.result
     c.larger.ensures
 
 pub returns : goal.returns
 returns c = all-raised c.loop-r.invariant c.requires.bounds_len c.loop-r-test.false
 
-pub offset_bounds-times-r : goal.offset_bounds-times-r
-offset_bounds-times-r c = omega (arith, c.loop-r-test.true)
-
-pub overflow_cast-time : goal.overflow_cast-time
-overflow_cast-time c = omega (arith, c.shared_slice_known-in-loop-r-1.given c.loop-r.r)
-
 pub overflow_sub-response : goal.overflow_sub-response
-overflow_sub-response c = (range (goal.at.overflow_sub-response c).After-part_end-part).0
+overflow_sub-response c =
+    let e = c.part_end-part in
+    (range c.loop-r.invariant c.requires.bounds_len c.loop-r-test.true e.result e.ensures c.requires.at_job).0
 
 pub overflow_cast-response : goal.overflow_cast-response
-overflow_cast-response c = omega (arith, (range (goal.at.overflow_cast-response c).After-part_end-part).1)
-
-pub offset_bounds-bounds-r : goal.offset_bounds-bounds-r
-offset_bounds-bounds-r c = omega (arith, room (goal.at.offset_bounds-bounds-r c).In-loop-r, (called (goal.at.offset_bounds-bounds-r c).In-loop-r).good)
+overflow_cast-response c =
+    let e = c.part_end-part in
+    omega (arith, (range c.loop-r.invariant c.requires.bounds_len c.loop-r-test.true e.result e.ensures c.requires.at_job).1)
 
 pub bounds-bounds-r : goal.bounds-bounds-r
-bounds-bounds-r c = room (goal.at.bounds-bounds-r c).In-loop-r
-
-pub offset_bounds-bounds-r-in-loop-r : goal.offset_bounds-bounds-r-in-loop-r
-offset_bounds-bounds-r-in-loop-r c = omega (arith, room (turned c))
+bounds-bounds-r c = room c.loop-r.invariant c.requires.bounds_len c.loop-r-test.true
 
 pub bounds-bounds-r-in-loop-r : goal.bounds-bounds-r-in-loop-r
-bounds-bounds-r-in-loop-r c = room (turned c)
+bounds-bounds-r-in-loop-r c = room c.loop-r.invariant c.requires.bounds_len c.loop-r-test.true
 
 pub shape_of-bounds : goal.shape_of-bounds
 shape_of-bounds c = kept c.loop-r.invariant c.requires.bounds_len

@@ -4,7 +4,6 @@ use mathlib.Core.Path.{◌≡◌, ap, ◌∙◌}
 use mathlib.Core.Bool.{Bool, false}
 use mathlib.Core.List.{List}
 use native.Mathlib.Omega.{arith}
-use borrow.Author.Rules.{rules}
 use Rattle.model.specs.Least.{value}
 use Rattle.bounds.specs.declared.PartEnd.{PartEnd}
 use Rattle.bounds.specs.Loads.{solution}
@@ -27,7 +26,7 @@ returns-then-cooperative c = rw c.if-cooperative.true c.cooperative_end.ensures
 pub search-requires : goal.search-requires
 search-requires c =
     let a = c.requires in
-    (highers_summed a, (omega (arith, sums_small a), begins a _))
+    record { summable = highers_summed a; base_bound = omega (arith, sums_small a); from_bound = begins a _ }
 
 pub returns : goal.returns
 returns c =

@@ -4,7 +4,6 @@ use mathlib.Core.Path.{◌≡◌, refl, sym, ap, subst, ◌∙◌}
 use mathlib.Core.List.{List}
 use native.Mathlib.Nat.{le_antisymm}
 use native.Mathlib.Omega.{arith}
-use borrow.Author.Rules.{rules}
 use lib.ListN.{length, get_or, take, drop, replicate, length-drop}
 use lib.Seq.{take_all}
 use Rattle.model.specs.Bounds.{up}
@@ -14,7 +13,6 @@ use Rattle.bounds.specs.Promises.{OwnRow, AtJob, JobLeft, job_at, bounds_after, 
 use Rattle.bounds.proofs.AllJobs.{after-length, has_own, period_range, window_small}
 use Rattle.bounds.proofs.AllJobs.{at-job, base_small, job_in_window, jobs_past_window}
 use Rattle.bounds.proofs.row_bounds.Invariants.{JobsDone}
-use Rattle.bounds.proofs.row_bounds.Goals.{After-slice_known-1, After-struct_known-in-loop-job-1, Start}
 use Rattle.bounds.proofs.row_bounds.Goals as goal
 
 -- a slice from its third element on
@@ -67,65 +65,47 @@ module _ {own_first preempts : List ℕ} {own : Own} {times bounds : List ℕ} {
             largest = rw (left.bounds, behind, d.stands, d.largest);
           }
 
--- the function's entry, as the code before the loop and the loop's test see it
-abbrev entry : After-slice_known-1 → Start
-entry c = c.before.before.before.before
-
-abbrev called : After-struct_known-in-loop-job-1 → Start
-called c = entry c.before.before.before.before.before.before.before.before.before.before
-
 pub loop-job-init : goal.loop-job-init
-loop-job-init c =
-    let lengths = (entry (goal.at.loop-job-init c).After-slice_known-1).pre.1 in
-    none_done _ (c.clear.ensures ∙ ap (λ (n : ℕ). replicate n 0) lengths)
+loop-job-init c = none_done _ (c.clear.ensures ∙ ap (λ (n : ℕ). replicate n 0) c.requires.bounds_len)
 
 pub job_parts-from-requires : goal.job_parts-from-requires
 job_parts-from-requires c =
-    let s = called (goal.at.job_parts-from-requires c).After-struct_known-in-loop-job-1 in
     let d = c.loop-job.invariant in
-    (asked s.pre.0 d c.loop-job-test.true _ (tail_is s.args.loads.now), same s.pre.0 d)
+    record {
+      at_job = asked c.requires.own_row d c.loop-job-test.true _ (tail_is c.args.loads.now);
+      bounds_len = same c.requires.own_row d;
+    }
 
 pub overflow_add-base : goal.overflow_add-base
-overflow_add-base c =
-    omega (arith, fits (called (goal.at.overflow_add-base c).After-struct_known-in-loop-job-1).pre.0 c.loop-job.invariant c.loop-job-test.true)
+overflow_add-base c = omega (arith, fits c.requires.own_row c.loop-job.invariant c.loop-job-test.true)
 
 pub overflow_add-release : goal.overflow_add-release
 overflow_add-release c =
-    let g = (called (goal.at.overflow_add-release c).After-struct_known-in-loop-job-1).pre.0 in
+    let g = c.requires.own_row in
     omega (arith, window_small g, (period_range g).1, c.loop-job-test.true)
 
 pub loop-job-smaller : goal.loop-job-smaller
-loop-job-smaller c =
-    omega (arith, (period_range (called (goal.at.loop-job-smaller c).After-struct_known-in-loop-job-1).pre.0).0, c.loop-job-test.true)
+loop-job-smaller c = omega (arith, (period_range c.requires.own_row).0, c.loop-job-test.true)
 
 pub loop-job-preserved : goal.loop-job-preserved
 loop-job-preserved c =
-    let s = called (goal.at.loop-job-preserved c).After-struct_known-in-loop-job-1 in
-    one_more s.pre.0 c.loop-job.invariant c.loop-job-test.true _ (tail_is s.args.loads.now) _ _
+    one_more c.requires.own_row c.loop-job.invariant c.loop-job-test.true _ (tail_is c.args.loads.now) _ _
     c.job_parts-from.ensures
 
 pub shape_of-bounds : goal.shape_of-bounds
-shape_of-bounds c =
-    let s = called (goal.at.shape_of-bounds c).After-struct_known-in-loop-job-1 in
-    same s.pre.0 c.loop-job.invariant ∙ sym s.pre.1
+shape_of-bounds c = same c.requires.own_row c.loop-job.invariant ∙ sym c.requires.bounds_len
 
 pub returns : goal.returns
-returns c = all_done (called (goal.at.returns c).After-struct_known-in-loop-job-1).pre.0 c.loop-job.invariant c.loop-job-test.false
+returns c = all_done c.requires.own_row c.loop-job.invariant c.loop-job-test.false
 
 pub bounds-loads-0 : goal.bounds-loads-0
-bounds-loads-0 c = omega (arith, has_own (entry (goal.at.bounds-loads-0 c).After-slice_known-1).pre.0)
-
-pub overflow_cast-period : goal.overflow_cast-period
-overflow_cast-period c = omega (arith, c.shared_slice_known-4-1.given 0)
+bounds-loads-0 c = omega (arith, has_own c.requires.own_row)
 
 pub bounds-loads-1 : goal.bounds-loads-1
-bounds-loads-1 c = has_own (entry (goal.at.bounds-loads-1 c).After-slice_known-1).pre.0
-
-pub overflow_cast-cost : goal.overflow_cast-cost
-overflow_cast-cost c = omega (arith, c.shared_slice_known-5-1.given 1)
+bounds-loads-1 c = has_own c.requires.own_row
 
 pub slice_bounds-higher-count : goal.slice_bounds-higher-count
-slice_bounds-higher-count c = has_own (entry (goal.at.slice_bounds-higher-count c).After-slice_known-1).pre.0
+slice_bounds-higher-count c = has_own c.requires.own_row
 
 pub slice_bounds-higher-start : goal.slice_bounds-higher-start
-slice_bounds-higher-start c = omega (arith, has_own (entry (goal.at.slice_bounds-higher-start c).After-slice_known-1).pre.0)
+slice_bounds-higher-start c = omega (arith, has_own c.requires.own_row)

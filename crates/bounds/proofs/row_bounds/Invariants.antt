@@ -1,18 +1,12 @@
 -- `bounds::row_bounds` meets its contract: after j jobs the bounds are those over j jobs, and job j stands before its first part.
-use Prim.Native.Nat.{ℕ, suc, ◌+◌, ◌-◌, ◌≤◌, ◌<◌}
-use mathlib.Core.Path.{◌≡◌, refl, sym, ap, subst, ◌∙◌}
+use Prim.Native.Nat.{ℕ, ◌-◌, ◌≤◌}
+use mathlib.Core.Path.{◌≡◌}
 use mathlib.Core.List.{List}
-use native.Mathlib.Nat.{le_antisymm}
-use native.Mathlib.Omega.{arith}
-use borrow.Author.Rules.{rules}
-use lib.ListN.{length, get_or, take, drop, replicate, length-drop}
-use lib.Seq.{take_all}
+use lib.ListN.{get_or}
 use Rattle.model.specs.Bounds.{up}
 use Rattle.bounds.specs.declared.Job.{Job}
 use Rattle.bounds.specs.declared.Own.{Own}
-use Rattle.bounds.specs.Promises.{OwnRow, AtJob, JobLeft, job_at, bounds_after, bounds_in}
-use Rattle.bounds.proofs.AllJobs.{after-length, has_own, period_range, window_small}
-use Rattle.bounds.proofs.AllJobs.{at-job, base_small, job_in_window, jobs_past_window}
+use Rattle.bounds.specs.Promises.{job_at, bounds_after}
 use Rattle.bounds.proofs.row_bounds.Given as goal
 
 -- j jobs are done

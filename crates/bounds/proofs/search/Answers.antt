@@ -1,5 +1,5 @@
 -- `bounds::search` meets its contract: x is reached from below in n rounds.
-use Prim.Native.Nat.{ℕ, ◌+◌, ◌-◌}
+use Prim.Native.Nat.{ℕ, ◌+◌}
 use mathlib.Core.Path.{◌≡◌, sym, ap₂, subst, ◌∙◌}
 use mathlib.Core.List.{List}
 use native.Mathlib.Omega.{arith}
@@ -7,7 +7,7 @@ use Rattle.bounds.specs.declared.Answer.{Answer}
 use Rattle.bounds.specs.Loads.{side, searched}
 use Rattle.model.specs.Least.{least, rounds, Under}
 use Rattle.model.proofs.Climb.{under-start, under-step, under-found, under_past}
-use Rattle.model.proofs.Rounds.{Counted, counted_start, counted_past, counted_repeat, counted_more}
+use Rattle.model.proofs.Rounds.{counted_start, counted_past, counted_repeat, counted_more}
 use Rattle.bounds.proofs.Sides.{work-fits, side_mono}
 use Rattle.bounds.proofs.search.Goals.{After-work}
 use Rattle.bounds.proofs.search.Goals as goal
@@ -39,7 +39,7 @@ overflow_add-y c =
     omega (
       arith,
       c.work.ensures,
-      work-fits c.args.loads.now c.loop-x.x c.requires.summable (work-requires (goal.at.overflow_add-y c).In-loop-x c.lifetimes).1,
+      work-fits c.args.loads.now c.loop-x.x c.requires.summable (omega (arith, c.loop-x-test.true)),
     )
 
 pub returns-then-y-x : goal.returns-then-y-x

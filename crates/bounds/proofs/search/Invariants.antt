@@ -1,14 +1,8 @@
 -- `bounds::search` meets its contract: x is reached from below in n rounds.
-use Prim.Native.Nat.{ℕ, ◌+◌, ◌-◌}
-use mathlib.Core.Path.{◌≡◌, sym, ap₂, subst, ◌∙◌}
-use mathlib.Core.List.{List}
-use native.Mathlib.Omega.{arith}
-use Rattle.bounds.specs.declared.Answer.{Answer}
-use Rattle.bounds.specs.Loads.{side, searched}
-use Rattle.model.specs.Least.{least, rounds, Under}
-use Rattle.model.proofs.Climb.{under-start, under-step, under-found, under_past}
-use Rattle.model.proofs.Rounds.{Counted, counted_start, counted_past, counted_repeat, counted_more}
-use Rattle.bounds.proofs.Sides.{work-fits, side_mono}
+use Prim.Native.Nat.{◌-◌}
+use Rattle.bounds.specs.Loads.{side}
+use Rattle.model.specs.Least.{Under}
+use Rattle.model.proofs.Rounds.{Counted}
 use Rattle.bounds.proofs.search.Given as goal
 
 abbrev pub invariant-loop-x : goal.invariant-loop-x

@@ -1,10 +1,8 @@
 -- `bounds::work` meets its contract: the sum so far, with the work of the rows from i on, is the whole work.
 use Prim.Native.Nat.{◌+◌, ◌-◌, ◌≤◌}
 use mathlib.Core.Path.{◌≡◌}
-use native.Mathlib.Omega.{arith}
 use lib.ListN.{length, drop}
 use Rattle.bounds.specs.Loads.{InRange, work_at}
-use Rattle.bounds.proofs.Sides.{Turn, work-fits, work_turn, work-end}
 use Rattle.bounds.proofs.work.Given as goal
 
 abbrev pub invariant-loop-i : goal.invariant-loop-i

@@ -1,21 +1,12 @@
 -- `numbers::number_at` meets its contract. The invariant: what is left to read, put after what was read, is the number.
 -- Assumes nothing.
-use Prim.Native.Nat.{ℕ, suc, ◌+◌, ◌-◌, ◌*◌, ◌^◌, ◌≤◌, ◌<◌}
-use native.Mathlib.Nat.{mul-le-mul_left, mul_comm, pow-le-pow_right, pow-suc}
-use native.Mathlib.Omega.{arith}
-use borrow.Author.Rules.{rules}
-use borrow.Author.Tests.{lt-ltb, le-ltb, eq-eqb, ne_eqb}
-use mathlib.Core.Path.{◌≡◌, refl, sym, ap, ◌∙◌}
+use Prim.Native.Nat.{ℕ, ◌-◌, ◌^◌, ◌≤◌, ◌<◌}
+use mathlib.Core.Path.{◌≡◌}
 use mathlib.Core.List.{List}
-use mathlib.Core.Bool.{false}
 use lib.ListN.{length, get_or, drop}
-use lib.Dec.{eqb, ltb, lit≤}
-use Rattle.numbers.specs.declared.Number.{Number}
-use Rattle.numbers.specs.declared.Number.TheVariants.{Got, EndsEarly, Malformed}
-use Rattle.lists.specs.Lists.{pick}
-use Rattle.lists.proofs.Tests.{pick_same}
-use Rattle.numbers.specs.Numbers.{after, last, groups, number_at}
-use Rattle.numbers.proofs.Laws.{after-after, groups-end, groups-cons}
+use lib.Dec.{eqb}
+use Rattle.numbers.specs.declared.Number.TheVariants.{Malformed}
+use Rattle.numbers.specs.Numbers.{after, groups, number_at}
 use Rattle.numbers.proofs.number_at.Given as goal
 
 pub record Reading (s : List ℕ) (at value weight p left : ℕ) : Type 0 where

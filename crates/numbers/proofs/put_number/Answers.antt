@@ -1,13 +1,12 @@
 -- `numbers::put_number` meets its contract. The invariant: what is still to be written, put where it goes, is the whole. Assumes nothing.
-use Prim.Native.Nat.{ℕ, ◌+◌, ◌/◌, ◌%◌, ◌^◌, ◌≤◌, ◌<◌}
+use Prim.Native.Nat.{ℕ, ◌+◌, ◌/◌, ◌%◌, ◌≤◌, ◌<◌}
 use native.Mathlib.Numerals.{add-one}
 use native.Mathlib.Omega.{arith}
-use borrow.Author.Rules.{rules}
 use mathlib.Core.Path.{◌≡◌, refl, sym, ap, ◌∙◌}
 use mathlib.Core.List.{List}
 use lib.ListN.{length, set, length-set}
 use lib.Seq.{sets}
-use Rattle.numbers.specs.Numbers.{encode, Put}
+use Rattle.numbers.specs.Numbers.{Put}
 use Rattle.numbers.proofs.Laws.{encode_one, encode_more}
 use Rattle.numbers.proofs.put_number.Invariants.{Writing}
 use Rattle.numbers.proofs.put_number.Goals as goal

@@ -1,5 +1,4 @@
 -- `numbers::store` meets its contract. Assumes nothing.
-use borrow.Author.Rules.{rules}
 use mathlib.Core.Path.{sym}
 use lib.Seq.{set_out}
 use Rattle.numbers.proofs.store.Goals as goal

@@ -1,5 +1,4 @@
 -- `table::fault_of` meets its contract. Assumes nothing.
-use borrow.Author.Rules.{rules}
 use borrow.Author.Tests.{lt-ltb, le-ltb}
 use Rattle.table.specs.Faults.{fault_of}
 use Rattle.table.proofs.Codes.{fault_stays, next_decides}

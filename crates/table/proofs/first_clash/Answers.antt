@@ -1,5 +1,5 @@
 -- `table::first_clash` meets its contract. Its invariants are those of `Clashes`, at the rule asked for. Assumes nothing.
-use Prim.Native.Nat.{ℕ, ◌+◌, ◌-◌, ◌≤◌, ◌<◌}
+use Prim.Native.Nat.{ℕ, ◌+◌, ◌≤◌, ◌<◌}
 use native.Mathlib.Omega.{arith}
 use borrow.Author.Rules.{rules}
 use mathlib.Core.Path.{◌≡◌, refl, sym, ◌∙◌}
@@ -11,7 +11,7 @@ use Rattle.table.specs.declared.Rule.{Rule}
 use Rattle.table.specs.Memory.{zero_row}
 use Rattle.table.specs.Clash.{clash, breaks}
 use Rattle.table.proofs.Clashes.{Looking, looking_start, looking_next, looking_here, looking_past}
-use Rattle.table.proofs.Clashes.{Inner, inner_next, inner_here, inner_past}
+use Rattle.table.proofs.Clashes.{inner_next, inner_here, inner_past}
 use Rattle.table.proofs.Rows.{length_mapped}
 use Rattle.table.proofs.first_clash.Invariants.{Comparing}
 use Rattle.table.proofs.first_clash.Goals as goal
@@ -41,7 +41,7 @@ nowhere {n} {i} l h = let last : i ≡ n = omega (arith, l.upto) in last ∙ loo
 
 pub rows-init : goal.rows-init
 rows-init c =
-    let rows = c.args.t1 in
+    let rows = c.args.rows in
     let long : length rows ≡ 64 = search (rules, length_mapped) in
     looking_start _ rows (omega arith)
 

@@ -1,18 +1,13 @@
 -- `table::first_clash` meets its contract. Its invariants are those of `Clashes`, at the rule asked for. Assumes nothing.
-use Prim.Native.Nat.{ℕ, ◌+◌, ◌-◌, ◌≤◌, ◌<◌}
-use native.Mathlib.Omega.{arith}
-use borrow.Author.Rules.{rules}
-use mathlib.Core.Path.{◌≡◌, refl, sym, ◌∙◌}
-use mathlib.Core.Bool.{Bool, true, false}
+use Prim.Native.Nat.{ℕ, ◌-◌, ◌≤◌, ◌<◌}
 use mathlib.Core.List.{List}
-use lib.ListN.{length, get_or, take}
+use lib.ListN.{get_or}
 use Rattle.table.specs.declared.Row.{Row}
 use Rattle.table.specs.declared.Rule.{Rule}
 use Rattle.table.specs.Memory.{zero_row}
-use Rattle.table.specs.Clash.{clash, breaks}
-use Rattle.table.proofs.Clashes.{Looking, looking_start, looking_next, looking_here, looking_past}
-use Rattle.table.proofs.Clashes.{Inner, inner_next, inner_here, inner_past}
-use Rattle.table.proofs.Rows.{length_mapped}
+use Rattle.table.specs.Clash.{breaks}
+use Rattle.table.proofs.Clashes.{Looking}
+use Rattle.table.proofs.Clashes.{Inner}
 use Rattle.table.proofs.first_clash.Given as goal
 
 -- no row before row i clashes with an earlier one, nor row i with the j first

@@ -1,6 +1,5 @@
 -- `table::first_crossed` meets its contract, by its two tests. Assumes nothing.
 use native.Mathlib.Omega.{arith}
-use borrow.Author.Rules.{rules}
 use Rattle.table.proofs.first_crossed.Goals as goal
 
 pub returns-then-i-before : goal.returns-then-i-before

@@ -1,5 +1,5 @@
 -- `table::first_fault` meets its contract. The invariant: there is no fault before place i. Assumes nothing.
-use Prim.Native.Nat.{ℕ, ◌+◌, ◌-◌, ◌≤◌, ◌<◌}
+use Prim.Native.Nat.{ℕ, ◌+◌, ◌≤◌, ◌<◌}
 use native.Mathlib.Omega.{arith}
 use borrow.Author.Rules.{rules}
 use mathlib.Core.Path.{◌≡◌, refl, sym, ◌∙◌}
@@ -8,7 +8,7 @@ use lib.ListN.{length, get_or, drop}
 use Rattle.table.specs.declared.Verdict.{Verdict}
 use Rattle.table.specs.declared.Verdict.TheVariants.{Good}
 use Rattle.table.specs.Verdicts.{code_of, ◌or_else◌}
-use Rattle.table.specs.Fields.{field, wanted, LowsHighs, judge, fault_in}
+use Rattle.table.specs.Fields.{field, wanted, judge, fault_in}
 use Rattle.table.proofs.Codes.{fault_stays, next_decides}
 use Rattle.table.proofs.FieldRanges.{wanted_more, fault_more, fault_none}
 use Rattle.table.proofs.first_fault.Invariants.{Passing}

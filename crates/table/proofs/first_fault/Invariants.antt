@@ -1,16 +1,9 @@
 -- `table::first_fault` meets its contract. The invariant: there is no fault before place i. Assumes nothing.
-use Prim.Native.Nat.{ℕ, ◌+◌, ◌-◌, ◌≤◌, ◌<◌}
-use native.Mathlib.Omega.{arith}
-use borrow.Author.Rules.{rules}
-use mathlib.Core.Path.{◌≡◌, refl, sym, ◌∙◌}
+use Prim.Native.Nat.{ℕ, ◌-◌, ◌≤◌}
+use mathlib.Core.Path.{◌≡◌}
 use mathlib.Core.List.{List}
-use lib.ListN.{length, get_or, drop}
-use Rattle.table.specs.declared.Verdict.{Verdict}
-use Rattle.table.specs.declared.Verdict.TheVariants.{Good}
-use Rattle.table.specs.Verdicts.{code_of, ◌or_else◌}
-use Rattle.table.specs.Fields.{field, wanted, LowsHighs, judge, fault_in}
-use Rattle.table.proofs.Codes.{fault_stays, next_decides}
-use Rattle.table.proofs.FieldRanges.{wanted_more, fault_more, fault_none}
+use lib.ListN.{length, drop}
+use Rattle.table.specs.Fields.{wanted, LowsHighs, fault_in}
 use Rattle.table.proofs.first_fault.Given as goal
 
 pub record Passing (ns low high : List ℕ) (carried i : ℕ) : Type 0 where

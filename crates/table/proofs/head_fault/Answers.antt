@@ -1,6 +1,5 @@
 -- `table::head_fault` meets its contract: the constants are the ranges of `head` before the part count. Assumes nothing.
 use Prim.Native.Nat.{ℕ}
-use borrow.Author.Rules.{rules}
 use mathlib.Core.Path.{◌≡◌, refl, sym, ap, ◌∙◌}
 use mathlib.Core.List.{List, [], ◌∷◌}
 use lib.ListN.{length, take}

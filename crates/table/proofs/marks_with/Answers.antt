@@ -1,5 +1,4 @@
 -- `table::marks_with` meets its contract, by the row's kind. Assumes nothing.
-use borrow.Author.Rules.{rules}
 use borrow.Author.Tests.{eq-eqb, ne_eqb}
 use Rattle.table.proofs.marks_with.Goals as goal
 

@@ -1,8 +1,7 @@
 -- `table::priority_clashes` meets its contract. What slots, marks and `crossed` know of the rows before row i. Assumes nothing.
-use Prim.Native.Nat.{ℕ, ◌+◌, ◌-◌, ◌≤◌, ◌<◌}
+use Prim.Native.Nat.{ℕ, ◌+◌, ◌≤◌, ◌<◌}
 use native.Mathlib.Omega.{arith}
 use borrow.Author.Rules.{rules}
-use borrow.Author.Tests.{not-false}
 use mathlib.Core.Path.{◌≡◌, sym, ◌∙◌}
 use mathlib.Core.Bool.{Bool, true, false}
 use mathlib.Core.List.{List}
@@ -12,14 +11,13 @@ use Rattle.lists.specs.Lists.{any}
 use Rattle.table.specs.declared.Marks.{Marks}
 use Rattle.table.specs.declared.Row.{Row}
 use Rattle.table.specs.declared.Rule.TheVariants as R
-use Rattle.table.specs.Memory.{zero_row}
 use Rattle.table.specs.Clash.{breaks}
 use Rattle.table.specs.Promises.{FirstsOf, Placed, slot_of, marks_with, first_crossed}
-use Rattle.table.proofs.Clashes.{Looking, looking_start, one_more, looking_next, looking_here, looking_past}
+use Rattle.table.proofs.Clashes.{looking_start, one_more, looking_next, looking_here, looking_past}
 use Rattle.table.proofs.Rows.{length_mapped}
-use Rattle.table.proofs.Seen.{zero_marks, Seen, seen_start, seen_more}
+use Rattle.table.proofs.Seen.{zero_marks, seen_start, seen_more}
 use Rattle.table.proofs.priority_clashes.Invariants.{row_at, Passing}
-use Rattle.table.proofs.priority_clashes.Goals.{After-crosses_marks, After-slot_of-slot, Else-not-has_place}
+use Rattle.table.proofs.priority_clashes.Goals.{Else-not-has_place}
 use Rattle.table.proofs.priority_clashes.Goals as goal
 
 module _ {rows : List Row} {n : ℕ} {taken : List Bool} {marks : List Marks} {crossed i : ℕ} (k : Passing rows n taken marks crossed i) where
@@ -52,23 +50,16 @@ module _ {rows : List Row} {n : ℕ} {taken : List Bool} {marks : List Marks} {c
 
 -- row i, which is inside, has a place
 placed : (c : Else-not-has_place)
-    → Placed (row_at c.args.t1 c.loop-i.i)
-placed c = rw (not-false c.has_place.result c.if-not-has_place.false) at c.has_place.ensures
+    → Placed (row_at c.args.rows c.loop-i.i)
+placed c = rw c.if-not-has_place.false at c.has_place.ensures
 
 -- so its slot is one of the 1,024
-slot_inside : (c : After-slot_of-slot) → c.slot_of-slot.result < 1024
-slot_inside c = let p = placed c.before in omega (arith, c.slot_of-slot.ensures, p.core, p.priority)
-
--- what the marks say of row i
-crossing : (c : After-crosses_marks)
-    → c.crosses_marks.result
-    ≡ any (breaks R.KindsCrossed (row_at c.args.t1 c.loop-i.i)) (take c.loop-i.i c.args.t1)
-crossing c =
-    c.crosses_marks.ensures ∙ c.loop-i.invariant.seen.crossing.said _ (placed c.before.before.before.before.before)
+slot_inside : (row : Row) (slot : ℕ) → Placed row → slot ≡ slot_of row → slot < 1024
+slot_inside row slot p e = omega (arith, e, p.core, p.priority)
 
 pub loop-i-init : goal.loop-i-init
 loop-i-init c =
-    let rows = c.args.t1 in
+    let rows = c.args.rows in
     let long : length rows ≡ 64 = search (rules, length_mapped) in
     record { seen = seen_start; apart = looking_start _ rows (omega arith); first = looking_start _ rows (omega arith) }
 
@@ -81,7 +72,7 @@ loop-i-preserved c =
     rw (c.marks_with.ensures, c.slot_of-slot.ensures)
     (next c.loop-i.invariant c.loop-i-test.true (placed (goal.at.loop-i-preserved c).Else-not-has_place)
     (rw c.slot_of-slot.ensures at c.if-taken-slot.false)
-    (crossing (goal.at.loop-i-preserved c).After-crosses_marks)
+    (c.crosses_marks.ensures ∙ c.loop-i.invariant.seen.crossing.said _ (placed (goal.at.loop-i-preserved c).Else-not-has_place))
     c.first_crossed-crossed.ensures)
 
 pub returns-then-not-has_place : goal.returns-then-not-has_place
@@ -91,7 +82,8 @@ pub slot_of-slot-requires : goal.slot_of-slot-requires
 slot_of-slot-requires c = placed c
 
 pub bounds-taken-slot-in-loop-i : goal.bounds-taken-slot-in-loop-i
-bounds-taken-slot-in-loop-i c = slot_inside (goal.at.bounds-taken-slot-in-loop-i c).After-slot_of-slot
+bounds-taken-slot-in-loop-i c =
+    slot_inside _ _ (placed (goal.at.bounds-taken-slot-in-loop-i c).Else-not-has_place) c.slot_of-slot.ensures
 
 pub offset_bounds-marks-core : goal.offset_bounds-marks-core
 offset_bounds-marks-core c = omega (arith, (placed (goal.at.offset_bounds-marks-core c).Else-not-has_place).core)

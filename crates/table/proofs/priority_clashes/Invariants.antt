@@ -1,23 +1,15 @@
 -- `table::priority_clashes` meets its contract. What slots, marks and `crossed` know of the rows before row i. Assumes nothing.
-use Prim.Native.Nat.{ℕ, ◌+◌, ◌-◌, ◌≤◌, ◌<◌}
-use native.Mathlib.Omega.{arith}
-use borrow.Author.Rules.{rules}
-use borrow.Author.Tests.{not-false}
-use mathlib.Core.Path.{◌≡◌, sym, ◌∙◌}
-use mathlib.Core.Bool.{Bool, true, false}
+use Prim.Native.Nat.{ℕ, ◌-◌}
+use mathlib.Core.Bool.{Bool}
 use mathlib.Core.List.{List}
-use lib.ListN.{length, get_or, set, take}
-use lib.Seq.{length-take-le}
-use Rattle.lists.specs.Lists.{any}
+use lib.ListN.{get_or, take}
 use Rattle.table.specs.declared.Marks.{Marks}
 use Rattle.table.specs.declared.Row.{Row}
 use Rattle.table.specs.declared.Rule.TheVariants as R
 use Rattle.table.specs.Memory.{zero_row}
 use Rattle.table.specs.Clash.{breaks}
-use Rattle.table.specs.Promises.{FirstsOf, Placed, slot_of, marks_with, first_crossed}
-use Rattle.table.proofs.Clashes.{Looking, looking_start, one_more, looking_next, looking_here, looking_past}
-use Rattle.table.proofs.Rows.{length_mapped}
-use Rattle.table.proofs.Seen.{zero_marks, Seen, seen_start, seen_more}
+use Rattle.table.proofs.Clashes.{Looking}
+use Rattle.table.proofs.Seen.{Seen}
 use Rattle.table.proofs.priority_clashes.Given as goal
 
 -- row i

@@ -1,7 +1,6 @@
 -- `table::row_fault` meets its contract: good fields leave room for the times. Assumes nothing.
 use Prim.Native.Nat.{◌+◌, ◌≤◌}
 use native.Mathlib.Omega.{arith}
-use borrow.Author.Rules.{rules}
 use mathlib.Core.Path.{sym, ap, ◌∙◌}
 use lib.ListN.{length}
 use Rattle.lists.proofs.Parts.{part_is, part_length}

@@ -1,5 +1,5 @@
 -- `table::rows_fault` meets its contract. The invariant: no row before row i has a fault. Assumes nothing.
-use Prim.Native.Nat.{ℕ, ◌+◌, ◌-◌, ◌≤◌, ◌<◌}
+use Prim.Native.Nat.{ℕ, ◌+◌, ◌≤◌, ◌<◌}
 use native.Mathlib.Omega.{arith}
 use borrow.Author.Rules.{rules}
 use mathlib.Core.Path.{◌≡◌, refl, sym, ap, ◌∙◌}
@@ -56,7 +56,7 @@ module _ {t : Table} {used i : ℕ} (l : Looking t used i) where
 
 pub loop-i-init : goal.loop-i-init
 loop-i-init c =
-    let long : length c.args.t1.rows ≡ 64 = search (rules, length_mapped) in
+    let long : length c.args.t.rows ≡ 64 = search (rules, length_mapped) in
     record { few = omega (arith, c.requires); upto = search rules; room = search rules; same = refl }
 
 pub returns-then-code_of-ne0 : goal.returns-then-code_of-ne0

@@ -1,21 +1,10 @@
 -- `table::rows_fault` meets its contract. The invariant: no row before row i has a fault. Assumes nothing.
-use Prim.Native.Nat.{ℕ, ◌+◌, ◌-◌, ◌≤◌, ◌<◌}
-use native.Mathlib.Omega.{arith}
-use borrow.Author.Rules.{rules}
-use mathlib.Core.Path.{◌≡◌, refl, sym, ap, ◌∙◌}
-use lib.ListN.{length, get_or, drop, drop_of_length-le}
-use lib.Seq.{length-take-le}
-use Rattle.lists.proofs.Walks.{taken_more}
-use Rattle.table.specs.declared.Row.{Row}
+use Prim.Native.Nat.{ℕ, ◌-◌, ◌≤◌}
+use mathlib.Core.Path.{◌≡◌}
+use lib.ListN.{length, drop}
 use Rattle.table.specs.declared.Table.{Table}
-use Rattle.table.specs.declared.Verdict.{Verdict}
-use Rattle.table.specs.declared.Verdict.TheVariants.{Good}
-use Rattle.table.specs.Verdicts.{code_of, ◌or_else◌}
-use Rattle.table.specs.Memory.{zero_row, used_rows}
-use Rattle.table.specs.Faults.{row_fault, rows_fault}
-use Rattle.table.proofs.Codes.{fault_stays, next_decides, first_good}
-use Rattle.table.proofs.Heads.{head-found}
-use Rattle.table.proofs.Rows.{length_mapped, faults_more}
+use Rattle.table.specs.Memory.{used_rows}
+use Rattle.table.specs.Faults.{rows_fault}
 use Rattle.table.proofs.rows_fault.Given as goal
 
 pub record Looking (t : Table) (used i : ℕ) : Type 0 where

@@ -1,5 +1,4 @@
 -- `table::times_fault` meets its contract: each time has the same range. Assumes nothing.
-use borrow.Author.Rules.{rules}
 use mathlib.Core.Path.{sym, ap, ◌∙◌}
 use mathlib.Core.List.{List}
 use Rattle.table.specs.Fields.{Wanted, fault_in}

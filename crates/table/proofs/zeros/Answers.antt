@@ -1,6 +1,5 @@
 -- `table::zeros` meets its contract. Assumes nothing.
 use Rattle.lists.specs.Lists.{each}
-use borrow.Author.Rules.{rules}
 use Rattle.table.proofs.zeros.Goals as goal
 
 pub returns : goal.returns

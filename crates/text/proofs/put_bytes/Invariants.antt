@@ -1,12 +1,7 @@
 -- `text::put_bytes` meets its contract: byte by byte. Assumes nothing.
-use Prim.Native.Nat.{ℕ, ◌+◌, ◌-◌, ◌<◌}
-use native.Mathlib.Numerals.{add-one}
-use native.Mathlib.Omega.{arith}
-use borrow.Author.Rules.{rules}
-use mathlib.Core.List.{List, [], ◌∷◌}
-use lib.ListN.{length, get_or, drop, set, length-drop, drop_of_length-le}
-use lib.Seq.{drop-cons}
-use Rattle.text.proofs.Puts.{Putting, starts, byte_put, turn, ends}
+use Prim.Native.Nat.{◌-◌}
+use lib.ListN.{length, drop}
+use Rattle.text.proofs.Puts.{Putting}
 use Rattle.text.proofs.put_bytes.Given as goal
 
 abbrev pub invariant-loop-i : goal.invariant-loop-i

@@ -1,5 +1,4 @@
 -- `text::put_decimal` meets its contract: the digits are the decimal form. Assumes nothing.
-use borrow.Author.Rules.{rules}
 use mathlib.Core.Path.{◌∙◌}
 use Rattle.text.proofs.Decimals.{digits_are}
 use Rattle.text.proofs.put_decimal.Goals as goal

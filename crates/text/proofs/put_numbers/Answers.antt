@@ -1,13 +1,12 @@
 -- `text::put_numbers` meets its contract: each number but the last and a byte, then the last and its own. Assumes nothing.
-use Prim.Native.Nat.{ℕ, suc, ◌+◌, ◌-◌, ◌≤◌, ◌<◌}
+use Prim.Native.Nat.{ℕ, ◌+◌, ◌-◌, ◌≤◌, ◌<◌}
 use native.Mathlib.Omega.{arith}
-use borrow.Author.Rules.{rules}
 use mathlib.Core.Path.{◌≡◌, ap}
 use mathlib.Core.List.{List, [], ◌∷◌, ◌++◌, map}
 use lib.ListN.{length, get_or, drop, length-append}
 use Rattle.text.specs.Text.{decimal, joined}
 use Rattle.text.specs.Promises.{Fits, PutAt}
-use Rattle.text.proofs.Puts.{Putting, starts, room, turn, last}
+use Rattle.text.proofs.Puts.{starts, room, turn, last}
 use Rattle.text.proofs.Lines.{numbers_more, numbers-last}
 use Rattle.text.proofs.put_numbers.Invariants.{Numbers}
 use Rattle.text.proofs.put_numbers.Goals as goal

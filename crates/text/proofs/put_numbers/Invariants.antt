@@ -1,14 +1,9 @@
 -- `text::put_numbers` meets its contract: each number but the last and a byte, then the last and its own. Assumes nothing.
-use Prim.Native.Nat.{ℕ, suc, ◌+◌, ◌-◌, ◌≤◌, ◌<◌}
-use native.Mathlib.Omega.{arith}
-use borrow.Author.Rules.{rules}
-use mathlib.Core.Path.{◌≡◌}
-use mathlib.Core.List.{List, [], ◌∷◌, ◌++◌, map}
-use lib.ListN.{length, get_or, drop}
+use Prim.Native.Nat.{ℕ, suc, ◌-◌, ◌≤◌}
+use mathlib.Core.List.{List, [], ◌∷◌, map}
+use lib.ListN.{length, drop}
 use Rattle.text.specs.Text.{decimal, joined}
-use Rattle.text.specs.Promises.{Fits, PutAt}
-use Rattle.text.proofs.Puts.{Putting, starts, room, turn, last}
-use Rattle.text.proofs.Lines.{numbers_more, numbers-last}
+use Rattle.text.proofs.Puts.{Putting}
 use Rattle.text.proofs.put_numbers.Given as goal
 
 -- from number i on all is left to put

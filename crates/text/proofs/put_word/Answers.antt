@@ -1,6 +1,5 @@
 -- `text::put_word` meets its contract. Assumes nothing.
 use native.Mathlib.Omega.{arith}
-use borrow.Author.Rules.{rules}
 use mathlib.Core.Path.{refl}
 use mathlib.Core.List.{[], ◌∷◌}
 use Rattle.text.proofs.Puts.{starts, byte_put, room, turn, last}
