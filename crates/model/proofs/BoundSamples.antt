@@ -10,7 +10,7 @@ use Rattle.model.specs.Task.{cost, part, parts_before, parts}
 use Rattle.model.specs.Bounds.{limit, up, down, before, through, cooperative, preemptive, higher, lower, blocking}
 use Rattle.model.specs.Bounds.{demand, window, jobs, preemptive_end, start, end_from, finish, response, bound, meets_deadline}
 use Rattle.model.specs.Bounds.{above, highest, judged_by, core_verdict, passes, no_window}
-use Rattle.model.specs.BoundSamples.{BoundSamples, most, one, d1, d2, full, printed_start, printed_end}
+use Rattle.model.specs.BoundSamples.{BoundSamples, b2, pair, most, one, d1, d2, full, printed_start, printed_end}
 use Rattle.model.proofs.Demand.{window-from-cost, end_from-own}
 use Rattle.model.proofs.Least.{least_is, least_never}
 use Rattle.model.proofs.Rounding.{before_is, before_pos, up_one}
@@ -34,6 +34,11 @@ verdicts = 0
 all : ℕ
 unfolding sides verdicts window value jobs preemptive_end start end_from finish max_below response bound meets_deadline printed_start printed_end
 all = 0
+
+-- of the pair's lower row all seven jobs are looked at
+bound_p : bound pair b2 0 ≡ 118
+unfolding all
+bound_p = refl
 
 -- the row at the limit
 window_c : window (one 16777215) (most 16777215) ≡ At 16777215
@@ -99,7 +104,7 @@ samples =
       window_b = (refl, refl);
       first_b = (refl, refl, refl);
       last_b = (refl, refl, refl, refl);
-      bound_b = refl;
+      bound_b = bound_p;
       limit_good = good_c;
       limit_over = over_c;
       one_tick = (refl, window_d1);

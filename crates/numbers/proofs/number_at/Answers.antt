@@ -73,46 +73,50 @@ low : (c : goal.Then-b-ge128) → get_or c.args.bytes.now c.loop-left.p 0 - 128 
 low c =
     omega (arith, c.shared_slice_known-1.given c.loop-left.p)
 
-pub loop-left-init : goal.loop-left-init
+-- at the first byte
+first : (s : List ℕ) (at : ℕ) → Reading s at 0 1 at 4
 unfolding number_at
-loop-left-init c = record { few = lit≤ tt; low = lit≤ tt; unit = refl; same = refl }
+first s at = record { few = lit≤ tt; low = lit≤ tt; unit = refl; same = refl }
+
+pub loop-left-init : goal.loop-left-init
+loop-left-init c =
+    let now = first c.args.bytes.now c.args.at in
+    record { reading = now; long_end = λ inside h some h'. long now some inside h h' }
 
 pub returns-then-bytes-p : goal.returns-then-bytes-p
-returns-then-bytes-p c = ends c.loop-left.invariant (search rules) c.if-bytes-p.true
+returns-then-bytes-p c = ends c.loop-left.invariant.reading (search rules) c.if-bytes-p.true
 
 pub overflow_cast-b : goal.overflow_cast-b
 overflow_cast-b c = omega (arith, c.shared_slice_known-1.given c.loop-left.p)
 
 pub overflow_mul-value : goal.overflow_mul-value
-overflow_mul-value c = omega (arith, room c.loop-left.invariant (search rules) _ (low c))
+overflow_mul-value c = omega (arith, room c.loop-left.invariant.reading (search rules) _ (low c))
 
 pub overflow_add-value : goal.overflow_add-value
-overflow_add-value c = record { fits = room c.loop-left.invariant (search rules) _ (low c) }
+overflow_add-value c = record { fits = room c.loop-left.invariant.reading (search rules) _ (low c) }
 
 pub overflow_mul-weight : goal.overflow_mul-weight
-overflow_mul-weight c = omega (arith, small c.loop-left.invariant (search rules))
+overflow_mul-weight c = omega (arith, small c.loop-left.invariant.reading (search rules))
 
 pub loop-left-preserved : goal.loop-left-preserved
 loop-left-preserved c =
-    turn c.loop-left.invariant (search rules) (search rules) c.if-b-ge128.true (c.shared_slice_known-1.given c.loop-left.p).fits
+    let byte = (c.shared_slice_known-1.given c.loop-left.p).fits in
+    let now = turn c.loop-left.invariant.reading (search rules) (search rules) c.if-b-ge128.true byte in
+    record { reading = now; long_end = λ inside h some h'. long now some inside h h' }
 
 pub overflow_mul-result : goal.overflow_mul-result
-overflow_mul-result c = omega (arith, room c.loop-left.invariant (search rules) _ c.if-b-ge128.false)
+overflow_mul-result c = omega (arith, room c.loop-left.invariant.reading (search rules) _ c.if-b-ge128.false)
 
 pub overflow_add-result : goal.overflow_add-result
-overflow_add-result c = record { fits = room c.loop-left.invariant (search rules) _ c.if-b-ge128.false }
+overflow_add-result c = record { fits = room c.loop-left.invariant.reading (search rules) _ c.if-b-ge128.false }
 
 pub returns-then-b-gt0 : goal.returns-then-b-gt0
 returns-then-b-gt0 c =
-    got c.loop-left.invariant (search rules) (search rules) c.if-b-ge128.false c.if-b-gt0.true
-
-pub returns-then-left-lt4 : goal.returns-then-left-lt4
-returns-then-left-lt4 c =
-    long c.loop-left.invariant (search rules) (search rules) c.if-b-gt0.false c.if-left-lt4.true
+    got c.loop-left.invariant.reading (search rules) (search rules) c.if-b-ge128.false c.if-b-gt0.true
 
 pub returns-else-b-ge128 : goal.returns-else-b-ge128
 returns-else-b-ge128 c =
-    zero_alone c.loop-left.invariant (search rules) (search rules) c.if-b-gt0.false c.if-left-lt4.false
+    zero_alone c.loop-left.invariant.reading (search rules) (search rules) c.if-b-gt0.false (omega arith)
 
 pub returns : goal.returns
-returns c = none_left c.loop-left.invariant c.loop-left-test.false
+returns c = none_left c.loop-left.invariant.reading c.loop-left-test.false

@@ -1,9 +1,9 @@
 -- `text::put_numbers` meets its contract: each number but the last and a byte, then the last and its own. Assumes nothing.
 use Prim.Native.Nat.{ℕ, ◌+◌, ◌-◌, ◌≤◌, ◌<◌}
 use native.Mathlib.Omega.{arith}
-use mathlib.Core.Path.{◌≡◌}
+use mathlib.Core.Path.{◌≡◌, ap}
 use mathlib.Core.List.{List, [], ◌∷◌, ◌++◌, map}
-use lib.ListN.{length, get_or, drop}
+use lib.ListN.{length, get_or, drop, length-append}
 use Rattle.text.specs.Text.{decimal, joined}
 use Rattle.text.specs.Promises.{Fits, PutAt}
 use Rattle.text.proofs.Puts.{starts, room, turn, last}
@@ -35,9 +35,11 @@ module _ {between end : ℕ} {ns out₀ : List ℕ} {at : ℕ} {out : List ℕ} 
         let e : length ns - 1 ≡ i = omega (arith, n.upto) in
         rw e (numbers-last between (end ∷ []) ns i (omega (arith, n.upto)))
 
-    -- it has room
-    fits_last : Fits (decimal (get_or ns (length ns - 1) 0) ++ (end ∷ [])) p out
-    fits_last = rw ending at n.putting.fits
+    -- it has room, whatever byte is behind it
+    fits_last : (b : ℕ) → Fits (decimal (get_or ns (length ns - 1) 0) ++ (b ∷ [])) p out
+    fits_last b =
+        let d = decimal (get_or ns (length ns - 1) 0) in
+        record { room = omega (arith, n.putting.fits.room, ap length ending, length-append d (b ∷ []), length-append d (end ∷ [])) }
 
     -- and with it all are put
     done : {q : ℕ} {out' : List ℕ} → PutAt (decimal (get_or ns (length ns - 1) 0) ++ (end ∷ [])) p out q out'
@@ -74,7 +76,7 @@ overflow_cast-numbers-2 c =
     omega (arith, c.shared_slice_known-2-1.given (length c.args.numbers.now - 1))
 
 pub put_decimal-requires : goal.put_decimal-requires
-put_decimal-requires c = fits_last c.loop-i.invariant c.loop-i-test.false
+put_decimal-requires c = fits_last c.loop-i.invariant c.loop-i-test.false _
 
 pub returns : goal.returns
 returns c =
