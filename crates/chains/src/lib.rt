@@ -1,4 +1,6 @@
 // The delay along a chain of parts: the sum of period and bound over the steps that count.
+#![tactic(auto)]
+
 ghost use Rattle.std.specs.Prelude.{◌≤◌, ◌≡◌, [], length};
 ghost use Rattle.lists.specs.Lists.{total, up_to};
 ghost use Rattle.table.specs.declared.Verdict.TheVariants.{UnknownStep};
@@ -32,7 +34,7 @@ pub struct Delayed {
 }
 
 // The numbers of a list's steps, a task id and a part for each, and how many steps they are.
-#[derive(Drop)]
+#[derive(Clone, Copy)]
 struct Listed {
     verdict: Verdict,
     count: usize,
@@ -40,7 +42,7 @@ struct Listed {
 }
 
 // A step in its table: task id, part from 0, core and period, and where its row's bounds begin among those of its core.
-#[derive(Drop)]
+#[derive(Clone, Copy)]
 struct Spot {
     task: u32,
     part: u32,

@@ -1,4 +1,6 @@
 // The printed timing sheet: worked out core by core and written byte for byte.
+#![tactic(auto)]
+
 ghost use Rattle.std.specs.Prelude.{◌+◌, ◌<◌, ◌≤◌, ◌≡◌, length};
 ghost use Rattle.table.specs.Verdicts.{code_of};
 ghost use Rattle.table.specs.Memory.{used_rows, tasks_of};

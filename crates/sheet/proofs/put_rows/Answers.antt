@@ -16,14 +16,9 @@ use Rattle.table.proofs.Rows.{length_mapped}
 use Rattle.text.specs.Promises.{Fits, PutAt}
 use Rattle.sheet.specs.Promises.{BoundsFor, row_text, rows_text}
 use Rattle.text.proofs.Puts.{Putting, starts, room, turn, ends}
-use Rattle.sheet.proofs.put_rows.Statement.{statement}
-use Rattle.sheet.proofs.put_rows.Tie as tie
-
-record Rows (core : ℕ) (t : Table) (bounds out₀ : List ℕ) (at : ℕ) (out : List ℕ) (p used i : ℕ) : Type 0 where
-  enough : BoundsFor t (length bounds)
-  rows_long : t.count ≤ length t.rows
-  left : used + parts_in (drop i (used_rows t)) ≤ length bounds
-  putting : Putting (rows_text core (used_rows t) bounds) out₀ at out p (rows_text core (drop i (used_rows t)) (drop used bounds))
+use Rattle.sheet.proofs.put_rows.Invariants.{Rows}
+use Rattle.sheet.proofs.put_rows.Goals.{In-loop-i}
+use Rattle.sheet.proofs.put_rows.Goals as goal
 
 -- at first all rows are left
 begins : (core : ℕ) (t : Table) (bounds out : List ℕ) (at : ℕ) → length t.rows ≡ 64 → BoundsFor t (length bounds)
@@ -82,60 +77,47 @@ module _ {core : ℕ} {t : Table} {bounds out₀ : List ℕ} {at : ℕ} {out : L
       let past : length (used_rows t) ≤ i = rw (length-take-le t.count t.rows k.rows_long) h in
       ends k.putting (rw (drop_of_length-le (used_rows t) past))
 
-abbrev invariant-loop : tie.invariant-loop
-invariant-loop out₀ at core bounds t n p₀ used₀ i₀ out p used i = Rows core t bounds out₀ at out p used i
-
-abbrev decreases-loop : tie.decreases-loop
-decreases-loop out₀ at core bounds t n p₀ used₀ i₀ out p used i = t.count - i
-
-loop-holds : tie.Need-loop-init invariant-loop decreases-loop
-loop-holds c =
-    let rows : length c.before.before.args.t4.rows ≡ 64 = search (rules, length_mapped) in
-    begins _ _ _ _ _ rows c.before.before.requires.0 c.before.before.requires.1
-
 -- the row's bounds end within those that are lent, which are no more than a table's times
-bounds-end : (c : tie.In-loop invariant-loop decreases-loop)
-    → (c.before.loop.used + (get_or c.before.before.before.before.args.t4.rows c.before.loop.i zero_row).parts
-    ≤ length c.before.before.before.before.args.bounds.now)
-    × (c.before.loop.used + (get_or c.before.before.before.before.args.t4.rows c.before.loop.i zero_row).parts ≤ 1024)
+bounds-end : (c : In-loop-i)
+    → (c.loop-i.used + (get_or c.args.t4.rows c.loop-i.i zero_row).parts
+    ≤ length c.args.bounds.now)
+    × (c.loop-i.used + (get_or c.args.t4.rows c.loop-i.i zero_row).parts ≤ 1024)
 bounds-end c =
-    let k = c.before.loop.invariant in
-    let next = left-next k c.loop-test.true _ refl in
+    let k = c.loop-i.invariant in
+    let next = left-next k c.loop-i-test.true _ refl in
     (omega (arith, next), omega (arith, next, k.enough.most))
 
-put-lines-requires : tie.Need-put-lines-requires invariant-loop decreases-loop
-put-lines-requires c κs =
-    let l = c.before.before.before.before in
-    let k = l.before.loop.invariant in
-    (own_few k l.loop-test.true _ refl, fits k l.loop-test.true _ refl)
+pub loop-i-init : goal.loop-i-init
+loop-i-init c =
+    let rows : length c.args.t4.rows ≡ 64 = search (rules, length_mapped) in
+    begins _ _ _ _ _ rows c.requires.0 c.requires.1
 
-loop-again : tie.Need-loop-preserved invariant-loop decreases-loop
-loop-again c =
-    let call = c.before.before in
-    let l = call.before.before.before.before.before in
-    step l.before.loop.invariant l.loop-test.true _ refl call.put-lines.ensures
+pub put_lines-p-requires : goal.put_lines-p-requires
+put_lines-p-requires c =
+    let k = c.loop-i.invariant in
+    (own_few k c.loop-i-test.true _ refl, fits k c.loop-i-test.true _ refl)
 
-returns : tie.Need-returns invariant-loop decreases-loop
-returns c = done c.before.loop.invariant c.loop-test.false
+pub loop-i-preserved : goal.loop-i-preserved
+loop-i-preserved c =
+    step c.loop-i.invariant c.loop-i-test.true _ refl c.put_lines-p.ensures
 
-pub put_rows_spec : {M : Type 1} → statement M
-put_rows_spec =
-    tie.close
-    (tie.spec
-    invariant-loop
-    decreases-loop
-    loop-holds
-    (λ c. omega (arith, c.before.loop.invariant.enough.rows))
-    (λ c. omega (arith, c.before.loop.invariant.enough.rows))
-    (λ c. search rules)
-    (λ c. omega (arith, bounds-end c.before.before))
-    (λ c. omega (arith, bounds-end c.before.before.before))
-    (λ c. omega arith)
-    (λ c. omega (arith, bounds-end c.before.before.before))
-    (λ c. omega (arith, bounds-end c.before.before.before))
-    put-lines-requires
-    (λ c. search rules)
-    (λ c. search rules)
-    loop-again
-    (λ c. search rules)
-    returns)
+pub returns : goal.returns
+returns c = done c.loop-i.invariant c.loop-i-test.false
+
+pub offset_bounds-own-i : goal.offset_bounds-own-i
+offset_bounds-own-i c = omega (arith, c.loop-i.invariant.enough.rows)
+
+pub bounds-own-i : goal.bounds-own-i
+bounds-own-i c = omega (arith, c.loop-i.invariant.enough.rows)
+
+pub overflow_add-end : goal.overflow_add-end
+overflow_add-end c = omega (arith, bounds-end (goal.at.overflow_add-end c).In-loop-i)
+
+pub offset_bounds-bounds-used : goal.offset_bounds-bounds-used
+offset_bounds-bounds-used c = omega (arith, bounds-end (goal.at.offset_bounds-bounds-used c).In-loop-i)
+
+pub slice_bounds-put_lines-start : goal.slice_bounds-put_lines-start
+slice_bounds-put_lines-start c = omega (arith, bounds-end (goal.at.slice_bounds-put_lines-start c).In-loop-i)
+
+pub slice_bounds-put_lines-end : goal.slice_bounds-put_lines-end
+slice_bounds-put_lines-end c = omega (arith, bounds-end (goal.at.slice_bounds-put_lines-end c).In-loop-i)

@@ -16,8 +16,8 @@ use Rattle.sheet.specs.Sheet.{file_line, good_text, sheet_text}
 use Rattle.text.specs.Promises.{Fits}
 use Rattle.text.proofs.Puts.{fits_as, put_as}
 use Rattle.sheet.proofs.Files.{refused-text, good_text_lem, text_is_short}
-use Rattle.sheet.proofs.put_sheet.Statement.{statement}
-use Rattle.sheet.proofs.put_sheet.Tie as tie
+use Rattle.sheet.proofs.put_sheet.Goals.{After-read-loaded}
+use Rattle.sheet.proofs.put_sheet.Goals as goal
 
 -- what is known of the file's bytes, and of what was read
 record Read (s : List ℕ) (l : Loaded) : Type 0 where
@@ -45,44 +45,25 @@ module _ {s : List ℕ} {l : Loaded} (r : Read s l) where
       fine = read_faultless s l r.same (sym code ∙ zero)
 
 -- what is known once the file is read
-read_of : (c : tie.After-read) → Read c.before.before.before.args.bytes.now c.read.result
-read_of c = record { bytes = λ i. omega (arith, c.before.shared-slice-known.given i); few = search rules; same = c.read.ensures }
+read_of : (c : After-read-loaded) → Read c.args.bytes.now c.read-loaded.result
+read_of c = record { bytes = λ i. omega (arith, c.shared_slice_known-1.given i); few = search rules; same = c.read-loaded.ensures }
 
-put-file-line-requires : tie.Need-put-file-line-requires
-put-file-line-requires c κs =
-    let told = c.before.before in
-    let r = read_of told.before in
-    fits_as (refused_line_lem r told.code_of_lem.ensures c.before.if1.true) (fits r told.before.before.before.before.requires)
+pub put_file_line-requires : goal.put_file_line-requires
+put_file_line-requires c =
+    let r = read_of (goal.at.put_file_line-requires c).After-read-loaded in
+    fits_as (refused_line_lem r c.code_of.ensures c.if-code_of-ne0.true) (fits r c.requires)
 
-returns : tie.Need-returns
+pub returns-then-code_of-ne0 : goal.returns-then-code_of-ne0
+returns-then-code_of-ne0 c =
+    put_as (refused_line_lem (read_of (goal.at.returns-then-code_of-ne0 c).After-read-loaded) c.code_of.ensures c.if-code_of-ne0.true) c.put_file_line.ensures
+
+pub put_cores-requires : goal.put_cores-requires
+put_cores-requires c =
+    let r = read_of (goal.at.put_cores-requires c).After-code_of in
+    let zero = c.if-code_of-ne0.false in
+    let room = fits r c.requires in
+    (fine r c.code_of.ensures zero, fits_as (good-cores r c.code_of.ensures zero) room)
+
+pub returns : goal.returns
 returns c =
-    let bad = c.before.before.before.before in
-    let told = bad.before in
-    put_as (refused_line_lem (read_of told.before) told.code_of_lem.ensures bad.if1.true) c.before.before.put-file-line.ensures
-
-put-cores-requires : tie.Need-put-cores-requires
-put-cores-requires c κs =
-    let told = c.before.before in
-    let r = read_of told.before in
-    let zero = c.before.if1.false in
-    let room = fits r told.before.before.before.before.requires in
-    (fine r told.code_of_lem.ensures zero, fits_as (good-cores r told.code_of_lem.ensures zero) room)
-
-returns-2 : tie.Need-returns-2
-returns-2 c =
-    let good = c.before.before.before.before in
-    let told = good.before in
-    put_as (good-cores (read_of told.before) told.code_of_lem.ensures good.if1.false) c.before.before.put-cores.ensures
-
-pub put_sheet_spec : {M : Type 1} → statement M
-put_sheet_spec =
-    tie.close
-    (tie.spec
-    (λ c κs. search rules)
-    (λ c κs. search rules)
-    put-file-line-requires
-    (λ c. search rules)
-    returns
-    put-cores-requires
-    (λ c. search rules)
-    returns-2)
+    put_as (good-cores (read_of (goal.at.returns c).After-code_of) c.code_of.ensures c.if-code_of-ne0.false) c.put_cores.ensures

@@ -1,0 +1,39 @@
+-- `sheet::put_lines` meets its contract: a line for each bound. Assumes nothing.
+use Prim.Native.Nat.{ℕ, ◌+◌, ◌-◌}
+use native.Mathlib.Omega.{arith}
+use borrow.Author.Rules.{rules}
+use mathlib.Core.List.{List}
+use lib.ListN.{length, get_or, drop}
+use Rattle.table.specs.declared.Row.{Row}
+use Rattle.lists.specs.Lists.{each, up_to}
+use Rattle.sheet.specs.Sheet.{bound_line}
+use Rattle.sheet.specs.Promises.{row_text}
+use Rattle.text.proofs.Puts.{Putting, starts, piece_room, piece_turn, pieces_end}
+use Rattle.sheet.proofs.put_lines.Goals as goal
+
+-- the line of bound r
+bound_at : ℕ → Row → List ℕ → ℕ → List ℕ
+bound_at core row bounds r = bound_line core row.id (r + 1) (get_or bounds r 0) row.deadline
+
+pub loop-r-init : goal.loop-r-init
+unfolding row_text bound_at
+loop-r-init c = starts _ _ _ c.requires.1
+
+pub put_bound-p-requires : goal.put_bound-p-requires
+unfolding bound_at
+put_bound-p-requires c =
+    (omega (arith, c.requires.0), piece_room _ _ _ c.loop-r.invariant c.loop-r-test.true)
+
+pub loop-r-preserved : goal.loop-r-preserved
+unfolding bound_at
+loop-r-preserved c =
+    piece_turn _ _ _ c.loop-r.invariant c.loop-r-test.true c.put_bound-p.ensures
+
+pub returns : goal.returns
+returns c = pieces_end _ _ _ c.loop-r.invariant c.loop-r-test.false
+
+pub overflow_cast-r : goal.overflow_cast-r
+overflow_cast-r c = omega (arith, c.requires.0)
+
+pub offset_bounds-bounds-r : goal.offset_bounds-bounds-r
+offset_bounds-bounds-r c = omega (arith, c.requires.0)

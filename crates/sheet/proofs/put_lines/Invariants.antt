@@ -1,0 +1,18 @@
+-- `sheet::put_lines` meets its contract: a line for each bound. Assumes nothing.
+use Prim.Native.Nat.{ℕ, ◌+◌, ◌-◌}
+use native.Mathlib.Omega.{arith}
+use borrow.Author.Rules.{rules}
+use mathlib.Core.List.{List}
+use lib.ListN.{length, get_or, drop}
+use Rattle.table.specs.declared.Row.{Row}
+use Rattle.lists.specs.Lists.{each, up_to}
+use Rattle.sheet.specs.Sheet.{bound_line}
+use Rattle.sheet.specs.Promises.{row_text}
+use Rattle.text.proofs.Puts.{Putting, starts, piece_room, piece_turn, pieces_end}
+use Rattle.sheet.proofs.put_lines.Given as goal
+
+abbrev pub invariant-loop-r : goal.invariant-loop-r
+invariant-loop-r l = Putting (row_text l.core l.row l.bounds) l.initial.out l.at l.out l.p (each (bound_at l.core l.row l.bounds) (drop l.r (up_to (length l.bounds))))
+
+abbrev pub decreases-loop-r : goal.decreases-loop-r
+decreases-loop-r l = length l.bounds - l.r
