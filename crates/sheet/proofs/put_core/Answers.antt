@@ -29,8 +29,7 @@ put_core_line-requires c =
 
 pub returns-then-code_of-eq11 : goal.returns-then-code_of-eq11
 returns-then-code_of-eq11 c =
-    let only-line = (goal.at.returns-then-code_of-eq11 c).Then-code_of-eq11 in
-    put_as (only _ _ _ _ only-line.before.code_of_lem.ensures only-line.if1.true) c.put_core_line.ensures
+    put_as (only _ _ _ _ c.code_of.ensures c.if-code_of-eq11.true) c.put_core_line.ensures
 
 pub put_rows-p-requires : goal.put_rows-p-requires
 put_rows-p-requires c =

@@ -49,6 +49,3 @@ unfolding header joined
 returns c =
     last (behind _ _ c.requires.1 c.put_word-p.ensures)
     (pieces_end _ _ _ c.loop-core.invariant c.loop-core-test.false)
-
-pub UNKNOWN0 : goal.UNKNOWN0
-UNKNOWN0 c = refl

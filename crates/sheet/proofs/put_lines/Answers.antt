@@ -9,11 +9,8 @@ use Rattle.lists.specs.Lists.{each, up_to}
 use Rattle.sheet.specs.Sheet.{bound_line}
 use Rattle.sheet.specs.Promises.{row_text}
 use Rattle.text.proofs.Puts.{Putting, starts, piece_room, piece_turn, pieces_end}
+use Rattle.sheet.proofs.put_lines.Invariants.{bound_at}
 use Rattle.sheet.proofs.put_lines.Goals as goal
-
--- the line of bound r
-bound_at : ℕ → Row → List ℕ → ℕ → List ℕ
-bound_at core row bounds r = bound_line core row.id (r + 1) (get_or bounds r 0) row.deadline
 
 pub loop-r-init : goal.loop-r-init
 unfolding row_text bound_at

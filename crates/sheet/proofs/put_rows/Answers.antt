@@ -79,9 +79,9 @@ module _ {core : ℕ} {t : Table} {bounds out₀ : List ℕ} {at : ℕ} {out : L
 
 -- the row's bounds end within those that are lent, which are no more than a table's times
 bounds-end : (c : In-loop-i)
-    → (c.loop-i.used + (get_or c.args.t4.rows c.loop-i.i zero_row).parts
+    → (c.loop-i.used + (get_or c.args.own.rows c.loop-i.i zero_row).parts
     ≤ length c.args.bounds.now)
-    × (c.loop-i.used + (get_or c.args.t4.rows c.loop-i.i zero_row).parts ≤ 1024)
+    × (c.loop-i.used + (get_or c.args.own.rows c.loop-i.i zero_row).parts ≤ 1024)
 bounds-end c =
     let k = c.loop-i.invariant in
     let next = left-next k c.loop-i-test.true _ refl in
@@ -89,7 +89,7 @@ bounds-end c =
 
 pub loop-i-init : goal.loop-i-init
 loop-i-init c =
-    let rows : length c.args.t4.rows ≡ 64 = search (rules, length_mapped) in
+    let rows : length c.args.own.rows ≡ 64 = search (rules, length_mapped) in
     begins _ _ _ _ _ rows c.requires.0 c.requires.1
 
 pub put_lines-p-requires : goal.put_lines-p-requires

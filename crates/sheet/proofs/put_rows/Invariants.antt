@@ -25,7 +25,7 @@ pub record Rows (core : ℕ) (t : Table) (bounds out₀ : List ℕ) (at : ℕ) (
   pub putting : Putting (rows_text core (used_rows t) bounds) out₀ at out p (rows_text core (drop i (used_rows t)) (drop used bounds))
 
 abbrev pub invariant-loop-i : goal.invariant-loop-i
-invariant-loop-i l = Rows l.core l.t l.bounds l.initial.out l.at l.out l.p l.used l.i
+invariant-loop-i l = Rows l.core l.own l.bounds l.initial.out l.at l.out l.p l.used l.i
 
 abbrev pub decreases-loop-i : goal.decreases-loop-i
-decreases-loop-i l = l.t.count - l.i
+decreases-loop-i l = l.own.count - l.i

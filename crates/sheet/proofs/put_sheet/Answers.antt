@@ -46,7 +46,7 @@ module _ {s : List ℕ} {l : Loaded} (r : Read s l) where
 
 -- what is known once the file is read
 read_of : (c : After-read-loaded) → Read c.args.bytes.now c.read-loaded.result
-read_of c = record { bytes = λ i. omega (arith, c.shared_slice_known-1.given i); few = search rules; same = c.read-loaded.ensures }
+read_of c = record { bytes = λ i. omega (arith, c.type_inv.bytes i); few = search rules; same = c.read-loaded.ensures }
 
 pub put_file_line-requires : goal.put_file_line-requires
 put_file_line-requires c =
@@ -59,11 +59,11 @@ returns-then-code_of-ne0 c =
 
 pub put_cores-requires : goal.put_cores-requires
 put_cores-requires c =
-    let r = read_of (goal.at.put_cores-requires c).After-code_of in
+    let r = read_of (goal.at.put_cores-requires c).After-read-loaded in
     let zero = c.if-code_of-ne0.false in
     let room = fits r c.requires in
     (fine r c.code_of.ensures zero, fits_as (good-cores r c.code_of.ensures zero) room)
 
 pub returns : goal.returns
 returns c =
-    put_as (good-cores (read_of (goal.at.returns c).After-code_of) c.code_of.ensures c.if-code_of-ne0.false) c.put_cores.ensures
+    put_as (good-cores (read_of (goal.at.returns c).After-read-loaded) c.code_of.ensures c.if-code_of-ne0.false) c.put_cores.ensures

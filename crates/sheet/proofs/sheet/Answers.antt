@@ -11,7 +11,7 @@ use Rattle.sheet.proofs.sheet.Goals as goal
 
 -- the text stands in front of the room
 worked-here : (c : After-put_sheet-n)
-    → Worked (sheet_text c.args.bytes.now) c.put_sheet-n.result c.put_sheet-n.new.0
+    → Worked (sheet_text c.args.bytes.now) c.put_sheet-n.result c.put_sheet-n.new.out
 worked-here c =
     let bytes = c.shared_slice_known-1.given in
     let s = c.args.bytes.now in
