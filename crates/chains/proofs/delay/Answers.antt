@@ -31,9 +31,11 @@ returns-then-code_of-ne0-2 c =
 
 pub delay_in-requires : goal.delay_in-requires
 delay_in-requires c =
-    (read_faultless _ _ c.read-file.ensures (fine (goal.at.delay_in-requires c).After-read_list-steps), list_is _ _ c.read_list-steps.ensures (listed c))
+    let l = (goal.at.delay_in-requires c).Else-code_of-ne0 in
+    (read_faultless _ _ c.read-file.ensures (fine l), list_is _ _ c.read_list-steps.ensures (listed (goal.at.delay_in-requires c).Else-code_of-ne0-2))
 
 pub returns : goal.returns
 returns c =
+    let l = (goal.at.returns c).Else-code_of-ne0 in
     c.delay_in.ensures
-    ∙ chain-answers _ _ c.read-file.ensures (fine (goal.at.returns c).After-read_list-steps) _ _ c.read_list-steps.ensures (listed (goal.at.returns c).After-delay_in-arg-1)
+    ∙ chain-answers _ _ c.read-file.ensures (fine l) _ _ c.read_list-steps.ensures (listed (goal.at.returns c).Else-code_of-ne0-2)
