@@ -1,5 +1,5 @@
 -- `chains::index_rows` meets its contract: row by row. Assumes nothing.
-use Prim.Native.Nat.{◌-◌, ◌<◌}
+use Prim.Native.Nat.{◌<◌}
 use native.Mathlib.Omega.{arith}
 use borrow.Author.Rules.{rules}
 use mathlib.Core.Path.{sym, ap, ◌∙◌}
@@ -8,7 +8,7 @@ use Rattle.table.specs.declared.Row.{Row}
 use Rattle.table.specs.Memory.{tasks_of}
 use Rattle.table.proofs.Rows.{length_mapped}
 use Rattle.chains.proofs.Rows.{Sound, table_row, TaskAt, tasks-count, count_in, task-at}
-use Rattle.chains.proofs.Indexing.{Indexing, none_indexed, one_indexed, all_indexed}
+use Rattle.chains.proofs.Indexing.{none_indexed, one_indexed, all_indexed}
 use Rattle.chains.proofs.index_rows.Goals.{At-loop-i, In-loop-i}
 use Rattle.chains.proofs.index_rows.Goals as goal
 
@@ -31,8 +31,9 @@ core_there c = let u = task c in omega (arith, ap (λ (r : Row). r.core) u.row, 
 pub overflow_add-used : goal.overflow_add-used
 unfolding parts
 overflow_add-used c =
-    let u = task (goal.at.overflow_add-used c).In-loop-i in
-    omega (arith, (c.loop-i.invariant.sum _ (core_there (goal.at.overflow_add-used c).In-loop-i)).small, ap (λ (r : Row). r.parts) u.row, u.good.count.most, inside (goal.at.overflow_add-used c).In-loop-i)
+    let l = (goal.at.overflow_add-used c).In-loop-i in
+    let u = task l in
+    omega (arith, (c.loop-i.invariant.sum _ (core_there l)).small, ap (λ (r : Row). r.parts) u.row, u.good.count.most, inside l)
 
 pub loop-i-preserved : goal.loop-i-preserved
 unfolding parts

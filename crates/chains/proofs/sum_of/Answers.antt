@@ -1,10 +1,10 @@
 -- `chains::sum_of` meets its contract: the sum over the steps that are passed. Assumes nothing.
-use Prim.Native.Nat.{◌+◌, ◌-◌, ◌<◌}
+use Prim.Native.Nat.{◌+◌, ◌<◌}
 use native.Mathlib.Omega.{arith}
 use mathlib.Core.Path.{◌≡◌}
 use lib.ListN.{length, get_or}
 use Rattle.chains.specs.Promises.{no_spot, place_in, adding}
-use Rattle.chains.proofs.Adding.{Adding, none_added, small, one_more, all-added}
+use Rattle.chains.proofs.Adding.{none_added, small, one_more, all-added}
 use Rattle.chains.proofs.sum_of.Goals.{After-added-sum, In-loop-i}
 use Rattle.chains.proofs.sum_of.Goals as goal
 

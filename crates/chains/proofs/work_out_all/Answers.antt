@@ -1,5 +1,5 @@
 -- `chains::work_out_all` meets its contract: core by core in step order, each once. Assumes nothing.
-use Prim.Native.Nat.{ℕ, ◌+◌, ◌-◌, ◌≤◌, ◌<◌}
+use Prim.Native.Nat.{ℕ, ◌+◌, ◌≤◌, ◌<◌}
 use native.Mathlib.Omega.{arith}
 use borrow.Author.Rules.{rules}
 use mathlib.Core.Path.{◌≡◌, sym, ap, ◌∙◌}
@@ -46,9 +46,10 @@ shape_of-rooms-then-code_of-ne0 c =
 
 pub returns-then-code_of-ne0 : goal.returns-then-code_of-ne0
 returns-then-code_of-ne0 c =
-    let said : c.code_of.result ≡ code_of (said_of (tasks_of c.args.t) (core (goal.at.returns-then-code_of-ne0 c).In-loop-i))
+    let l = (goal.at.returns-then-code_of-ne0 c).In-loop-i in
+    let said : c.code_of.result ≡ code_of (said_of (tasks_of c.args.t) (core l))
     = omega (arith, c.code_of.ensures, ap code_of c.work_out-verdict.ensures.said) in
-    halts (here (goal.at.returns-then-code_of-ne0 c).In-loop-i) c.work_out-verdict.ensures (λ e. c.if-code_of-ne0.true (said ∙ e)) c.refused.ensures
+    halts (here l) c.work_out-verdict.ensures (λ e. c.if-code_of-ne0.true (said ∙ e)) c.refused.ensures
 
 pub loop-i-preserved : goal.loop-i-preserved
 loop-i-preserved c =
@@ -56,7 +57,8 @@ loop-i-preserved c =
     elim c.if-not-ready-core.branch [
       | then-not-ready-core+else-code_of-ne0 w ↦
           (let said = w.work_out-verdict.ensures in
-          rw (w.rooms-is, w.ready-is) (next (here l) said (small l) (sym (w.code_of.ensures ∙ ap code_of said.said) ∙ w.if-code_of-ne0.false)))
+          let fine = sym (w.code_of.ensures ∙ ap code_of said.said) ∙ w.if-code_of-ne0.false in
+          rw (w.rooms-is, w.ready-is) (next (here l) said (small l) fine))
       | else-not-ready-core w ↦ rw (w.rooms-is, w.ready-is) (passing (here l) w.if-not-ready-core.false)
     ]
 
