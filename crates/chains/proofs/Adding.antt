@@ -36,7 +36,8 @@ adding-most s next bound =
 
 module _ {n : ℕ} {spots : List Spot} {rooms : List ℕ} {sum i : ℕ} (s : StepsInRange n spots rooms) (k : Adding n spots rooms sum i) where
   module _ (inside : i < n) (more : ℕ)
-      (is : more ≡ adding (get_or spots i no_spot) (get_or spots (i + 1) no_spot) (get_or rooms (place_in (get_or spots i no_spot)) 0)) where
+      (is : more
+      ≡ adding (get_or spots i no_spot) (get_or spots (i + 1) no_spot) (get_or rooms (place_in (get_or spots i no_spot)) 0)) where
     -- the sum stays small
     pub small : sum + more ≤ (i + 1) * 33554430
     small =

@@ -70,7 +70,8 @@ module _ {s : List ℕ} {at n : ℕ} {numbers : List ℕ} {p i : ℕ} (k : Stepp
       room = rw k.put (omega (arith, pad-length 0 64 k.done (omega (arith, k.count))))
 
       -- its ranges fit that
-      pub ranges_fit : LowsHighs (length (take (2 * i + 2 - 2 * i) (drop (2 * i) numbers))) step_lows step_highs × AllBelow step_highs 16777216
+      pub ranges_fit : LowsHighs (length (take (2 * i + 2 - 2 * i) (drop (2 * i) numbers))) step_lows step_highs
+          × AllBelow step_highs 16777216
       ranges_fit =
           rw (part_length (2 * i) 2 numbers room)
           (record { lows = refl; highs = refl }, more_below (lit< tt) (more_below (lit< tt) (none_below (lit< tt))))

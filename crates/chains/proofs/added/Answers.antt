@@ -1,8 +1,7 @@
 -- `chains::added` meets its contract. Assumes nothing.
 use native.Mathlib.Omega.{arith}
-use borrow.Author.Rules.{rules}
 use borrow.Author.Tests.{eq-eqb, ne_eqb, lt-ltb, le-ltb}
-use mathlib.Core.Logic.{⊎_elim}
+use Rattle.chains.proofs.added.Goals.{then-step-next+else-step-next-2, else-step-next}
 use Rattle.chains.proofs.added.Goals as goal
 
 pub returns-then-step-next-2 : goal.returns-then-step-next-2
@@ -12,7 +11,7 @@ returns-then-step-next-2 c =
 
 pub returns : goal.returns
 returns c =
-    ⊎_elim
-    (λ w. simp (eq-eqb _ _ w.0.taken, le-ltb _ _ w.3.left) (omega arith))
-    (λ w. simp (ne_eqb _ _ w.left) (omega arith))
-    c.if-step-next.branch
+    elim c.if-step-next.branch [
+      | then-step-next+else-step-next-2 w ↦ simp (eq-eqb _ _ w.if-step-next.true, le-ltb _ _ w.if-step-next-2.false) (omega arith)
+      | else-step-next w ↦ simp (ne_eqb _ _ w.if-step-next.false) (omega arith)
+    ]

@@ -1,5 +1,4 @@
 -- `chains::delay` meets its contract: the table is read, then the list, then the chain is worked out. Assumes nothing.
-use borrow.Author.Rules.{rules}
 use mathlib.Core.Path.{◌≡◌, sym, ◌∙◌}
 use Rattle.table.specs.Verdicts.{code_of}
 use Rattle.files.proofs.Stops.{read_faultless}
@@ -25,15 +24,20 @@ returns-then-code_of-ne0 c =
 
 pub returns-then-code_of-ne0-2 : goal.returns-then-code_of-ne0-2
 returns-then-code_of-ne0-2 c =
-    let said : c.refused-then-code_of-ne0-2.result ≡ no_delay A.List c.read_list-steps.result.verdict = c.refused-then-code_of-ne0-2.ensures in
-    said ∙ list_refuses _ _ c.read-file.ensures (fine (goal.at.returns-then-code_of-ne0-2 c).Else-code_of-ne0) _ _ c.read_list-steps.ensures
+    let l = (goal.at.returns-then-code_of-ne0-2 c).Else-code_of-ne0 in
+    let said : c.refused-then-code_of-ne0-2.result ≡ no_delay A.List c.read_list-steps.result.verdict
+    = c.refused-then-code_of-ne0-2.ensures in
+    said ∙ list_refuses _ _ c.read-file.ensures (fine l) _ _ c.read_list-steps.ensures
     (λ z. c.if-code_of-ne0-2.true (c.code_of-2.ensures ∙ z))
 
 pub delay_in-requires : goal.delay_in-requires
 delay_in-requires c =
-    (read_faultless _ _ c.read-file.ensures (fine (goal.at.delay_in-requires c).After-read_list-steps), list_is _ _ c.read_list-steps.ensures (listed c))
+    let l = (goal.at.delay_in-requires c).Else-code_of-ne0 in
+    let both = (goal.at.delay_in-requires c).Else-code_of-ne0-2 in
+    (read_faultless _ _ c.read-file.ensures (fine l), list_is _ _ c.read_list-steps.ensures (listed both))
 
 pub returns : goal.returns
 returns c =
+    let l = (goal.at.returns c).Else-code_of-ne0 in
     c.delay_in.ensures
-    ∙ chain-answers _ _ c.read-file.ensures (fine (goal.at.returns c).After-read_list-steps) _ _ c.read_list-steps.ensures (listed (goal.at.returns c).After-delay_in-arg-1)
+    ∙ chain-answers _ _ c.read-file.ensures (fine l) _ _ c.read_list-steps.ensures (listed (goal.at.returns c).Else-code_of-ne0-2)

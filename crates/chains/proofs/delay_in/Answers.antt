@@ -6,38 +6,23 @@ use Rattle.table.specs.Verdicts.{code_of}
 use Rattle.table.proofs.Rows.{length_mapped}
 use Rattle.chains.proofs.Rows.{Sound}
 use Rattle.chains.proofs.Chained.{Chained, not_chained, chained, cores_there, core-refused, can_sum, chain_passes}
-use Rattle.chains.proofs.delay_in.Goals.{After-find_steps-found, After-work_out_all-said, Else-code_of-ne0, Else-code_of-ne0-2, Start}
+use Rattle.chains.proofs.delay_in.Goals.{Else-code_of-ne0, Else-code_of-ne0-2}
 use Rattle.chains.proofs.delay_in.Goals as goal
 
--- the table, by its type and what is required
-sound : (c : Start) → Sound c.args.t
-sound c = record { rows = search (rules, length_mapped); times = search rules; fine = c.requires.0 }
-
--- its list has 64 numbers
-numbers : (c : Start) → length c.args.l.numbers ≡ 64
-numbers c = search rules
-
--- and 33 steps are kept
-spots : (c : After-find_steps-found) → length c.find_steps-found.result.spots ≡ 33
-spots c = search (rules, length_mapped)
-
 -- all steps are found
-found : (c : Else-code_of-ne0)
-    → Chained c.args.t c.args.l c.find_steps-found.result.spots
+found : (c : Else-code_of-ne0) → Chained c.args.t c.args.l c.find_steps-found.result.spots
 found c =
-    chained _ _ _ c.find_steps-found.ensures (sound c.before.before.before) c.requires.1 (numbers c.before.before.before) (spots c.before.before)
-    (sym c.code_of.ensures ∙ c.if-code_of-ne0.false)
-
--- the steps, as the call for the cores sees them
-abbrev steps : After-work_out_all-said → Else-code_of-ne0
-steps c = c.before.before.before
+    let sound : Sound c.args.t = record { rows = search (rules, length_mapped); times = search rules; fine = c.requires.0 } in
+    let numbers : length c.args.l.numbers ≡ 64 = search rules in
+    let spots : length c.find_steps-found.result.spots ≡ 33 = search (rules, length_mapped) in
+    chained _ _ _ c.find_steps-found.ensures sound c.requires.1 numbers spots (sym c.code_of.ensures ∙ c.if-code_of-ne0.false)
 
 -- every core passes
 fine : (c : Else-code_of-ne0-2) → code_of c.work_out_all-said.result.verdict ≡ 0
 fine c = sym c.code_of-2.ensures ∙ c.if-code_of-ne0-2.false
 
 -- the rooms are as long as they were
-rooms : (c : Else-code_of-ne0-2) → length c.work_out_all-said.new.1.1.1.0 ≡ 4096
+rooms : (c : Else-code_of-ne0-2) → length c.work_out_all-said.new.rooms ≡ 4096
 rooms c = search rules
 
 pub returns-then-code_of-ne0 : goal.returns-then-code_of-ne0
@@ -52,13 +37,16 @@ work_out_all-said-requires c =
 
 pub returns-then-code_of-ne0-2 : goal.returns-then-code_of-ne0-2
 returns-then-code_of-ne0-2 c =
-    core-refused (found (steps (goal.at.returns-then-code_of-ne0-2 c).After-work_out_all-said)) c.work_out_all-said.ensures (λ z. c.if-code_of-ne0-2.true (c.code_of-2.ensures ∙ z))
+    core-refused (found (goal.at.returns-then-code_of-ne0-2 c).Else-code_of-ne0) c.work_out_all-said.ensures
+    (λ z. c.if-code_of-ne0-2.true (c.code_of-2.ensures ∙ z))
 
 pub sum_of-requires : goal.sum_of-requires
 sum_of-requires c =
-    can_sum (found (steps (goal.at.sum_of-requires c).After-work_out_all-said)) c.work_out_all-said.ensures (fine (goal.at.sum_of-requires c).Else-code_of-ne0-2) (rooms (goal.at.sum_of-requires c).Else-code_of-ne0-2)
+    let l = (goal.at.sum_of-requires c).Else-code_of-ne0-2 in
+    can_sum (found (goal.at.sum_of-requires c).Else-code_of-ne0) c.work_out_all-said.ensures (fine l) (rooms l)
 
 pub returns : goal.returns
 returns c =
+    let l = (goal.at.returns c).Else-code_of-ne0-2 in
     c.good_delay.ensures
-    ∙ chain_passes (found (steps (goal.at.returns c).After-work_out_all-said)) c.work_out_all-said.ensures (fine (goal.at.returns c).Else-code_of-ne0-2) (rooms (goal.at.returns c).Else-code_of-ne0-2) _ c.sum_of.ensures
+    ∙ chain_passes (found (goal.at.returns c).Else-code_of-ne0) c.work_out_all-said.ensures (fine l) (rooms l) _ c.sum_of.ensures

@@ -1,10 +1,7 @@
 -- `chains::first_at` meets its contract: none of the places passed has the number. Assumes nothing.
-use Prim.Native.Nat.{ℕ, ◌-◌, ◌≤◌, ◌<◌}
 use native.Mathlib.Omega.{arith}
 use borrow.Author.Count.{below_more}
 use borrow.Author.Rules.{rules}
-use mathlib.Core.Path.{◌≡◌}
-use lib.ListN.{length, get_or}
 use Rattle.chains.proofs.first_at.Goals as goal
 
 pub loop-i-preserved : goal.loop-i-preserved

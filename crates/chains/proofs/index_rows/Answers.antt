@@ -1,5 +1,5 @@
 -- `chains::index_rows` meets its contract: row by row. Assumes nothing.
-use Prim.Native.Nat.{◌-◌, ◌<◌}
+use Prim.Native.Nat.{◌<◌}
 use native.Mathlib.Omega.{arith}
 use borrow.Author.Rules.{rules}
 use mathlib.Core.Path.{sym, ap, ◌∙◌}
@@ -8,43 +8,47 @@ use Rattle.table.specs.declared.Row.{Row}
 use Rattle.table.specs.Memory.{tasks_of}
 use Rattle.table.proofs.Rows.{length_mapped}
 use Rattle.chains.proofs.Rows.{Sound, table_row, TaskAt, tasks-count, count_in, task-at}
-use Rattle.chains.proofs.Indexing.{Indexing, none_indexed, one_indexed, all_indexed}
-use Rattle.chains.proofs.index_rows.Goals.{In-loop-i, Start}
+use Rattle.chains.proofs.Indexing.{none_indexed, one_indexed, all_indexed}
+use Rattle.chains.proofs.index_rows.Goals.{At-loop-i, In-loop-i}
 use Rattle.chains.proofs.index_rows.Goals as goal
 
 -- the table, by its type and what is required
-sound : (c : Start) → Sound c.args.t1
+sound : (c : At-loop-i) → Sound c.args.t
 sound c = record { rows = search (rules, length_mapped); times = search rules; fine = c.requires.0 }
 
 -- the task of the row
-task : (c : In-loop-i) → TaskAt c.args.t1 c.loop-i.i
-task c = task-at (sound c.before.before) _ c.loop-i-test.true
+task : (c : In-loop-i) → TaskAt c.args.t c.loop-i.i
+task c = task-at (sound c.before) _ c.loop-i-test.true
 
 -- its place
 inside : (c : In-loop-i) → c.loop-i.i < 64
-inside c = omega (arith, c.loop-i-test.true, count_in (sound c.before.before))
+inside c = omega (arith, c.loop-i-test.true, count_in (sound c.before))
 
 -- its core
-core_there : (c : In-loop-i) → (table_row c.args.t1 c.loop-i.i).core < 4
+core_there : (c : In-loop-i) → (table_row c.args.t c.loop-i.i).core < 4
 core_there c = let u = task c in omega (arith, ap (λ (r : Row). r.core) u.row, u.good.core.most)
 
 pub overflow_add-used : goal.overflow_add-used
 unfolding parts
 overflow_add-used c =
-    let u = task (goal.at.overflow_add-used c).In-loop-i in
-    omega (arith, (c.loop-i.invariant.sum _ (core_there (goal.at.overflow_add-used c).In-loop-i)).small, ap (λ (r : Row). r.parts) u.row, u.good.count.most, inside (goal.at.overflow_add-used c).In-loop-i)
+    let l = (goal.at.overflow_add-used c).In-loop-i in
+    let u = task l in
+    omega (arith, (c.loop-i.invariant.sum _ (core_there l)).small, ap (λ (r : Row). r.parts) u.row, u.good.count.most, inside l)
 
 pub loop-i-preserved : goal.loop-i-preserved
 unfolding parts
 loop-i-preserved c =
     let u = task (goal.at.loop-i-preserved c).In-loop-i in
-    rw u.row (one_indexed (tasks_of c.args.t1) _ u.task u.place c.loop-i.invariant u.good (inside (goal.at.loop-i-preserved c).In-loop-i))
+    rw u.row (one_indexed (tasks_of c.args.t) _ u.task u.place c.loop-i.invariant u.good (inside (goal.at.loop-i-preserved c).In-loop-i))
 
 pub loop-i-init : goal.loop-i-init
 loop-i-init c = none_indexed _ _ _ c.requires.1 c.requires.2
 
 pub offset_bounds-t-i : goal.offset_bounds-t-i
 offset_bounds-t-i c = omega (arith, inside c)
+
+pub bounds-t-i : goal.bounds-t-i
+bounds-t-i c = omega (arith, inside c)
 
 pub overflow_cast-core : goal.overflow_cast-core
 overflow_cast-core c = omega (arith, core_there (goal.at.overflow_cast-core c).In-loop-i)
@@ -86,4 +90,4 @@ pub shape_of-starts : goal.shape_of-starts
 shape_of-starts c = c.loop-i.invariant.starts_long ∙ sym c.requires.2
 
 pub returns : goal.returns
-returns c = all_indexed c.loop-i.invariant (omega (arith, tasks-count (sound (goal.at.returns c).Start), c.loop-i-test.false))
+returns c = all_indexed c.loop-i.invariant (omega (arith, tasks-count (sound (goal.at.returns c).At-loop-i), c.loop-i-test.false))

@@ -1,8 +1,6 @@
 -- `chains::read_steps` meets its contract: step by step, then the end. Assumes nothing.
 use Prim.Native.Nat.{◌-◌}
-use borrow.Author.Rules.{rules}
-use mathlib.Core.Path.{◌∙◌}
-use Rattle.chains.proofs.Stepping.{Stepping, none_read, step_stops, room, ranges_fit, step-read, steps_behind, steps_read}
+use Rattle.chains.proofs.Stepping.{Stepping}
 use Rattle.chains.proofs.read_steps.Given as goal
 
 abbrev pub invariant-loop-i : goal.invariant-loop-i

@@ -1,51 +1,41 @@
 -- `chains::sum_of` meets its contract: the sum over the steps that are passed. Assumes nothing.
-use Prim.Native.Nat.{◌+◌, ◌-◌, ◌<◌}
+use Prim.Native.Nat.{◌+◌, ◌<◌}
 use native.Mathlib.Omega.{arith}
 use mathlib.Core.Path.{◌≡◌}
 use lib.ListN.{length, get_or}
 use Rattle.chains.specs.Promises.{no_spot, place_in, adding}
-use Rattle.chains.proofs.Adding.{Adding, none_added, small, one_more, all-added}
-use Rattle.chains.proofs.sum_of.Goals.{After-added-sum, After-shared_slice_known-in-loop-i-1, In-loop-i, Start}
+use Rattle.chains.proofs.Adding.{none_added, small, one_more, all-added}
+use Rattle.chains.proofs.sum_of.Goals.{After-added-sum, In-loop-i}
 use Rattle.chains.proofs.sum_of.Goals as goal
-
--- the function's entry, as a turn of the loop sees it
-abbrev called : In-loop-i → Start
-called l = l.before.before.before
-
--- the turn that a call belongs to
-abbrev turn : After-shared_slice_known-in-loop-i-1 → In-loop-i
-turn c = c.before.before.before.before.before.before
 
 module _ (l : In-loop-i) where
   -- step i is one of at most 32
-  few : l.before.loop.i < 32
-  few = omega (arith, l.loop-test.true, (called l).requires.few)
+  few : l.loop-i.i < 32
+  few = omega (arith, l.loop-i-test.true, l.requires.few)
 
   -- its bound has a place
-  place : place_in (get_or (called l).args.t2 l.before.loop.i no_spot) < length (called l).args.rooms.now
-  place = (called l).pre.inside l.before.loop.i l.loop-test.taken
+  place : place_in (get_or l.args.spots l.loop-i.i no_spot) < length l.args.rooms.now
+  place = l.requires.inside l.loop-i.i l.loop-i-test.true
 
 -- what is added is what step i adds
 adds : (c : After-added-sum)
-    → let l = turn c.before in
-    let spots = (called l).args.t2 in
-    let i = l.before.loop.i in
+    → let spots = c.args.spots in
+    let i = c.loop-i.i in
     c.added-sum.result
-    ≡ adding (get_or spots i no_spot) (get_or spots (i + 1) no_spot) (get_or (called l).args.rooms.now (place_in (get_or spots i no_spot)) 0)
+    ≡ adding (get_or spots i no_spot) (get_or spots (i + 1) no_spot) (get_or c.args.rooms.now (place_in (get_or spots i no_spot)) 0)
 adds c = omega (arith, c.added-sum.ensures)
 
 pub added-sum-requires : goal.added-sum-requires
-added-sum-requires c =
-    let l = turn c in ((called l).pre.period _ l.loop-test.taken, (called l).pre.bound _ l.loop-test.taken)
+added-sum-requires c = (c.requires.period _ c.loop-i-test.true, c.requires.bound _ c.loop-i-test.true)
 
 pub overflow_add-sum : goal.overflow_add-sum
 overflow_add-sum c =
-    let l = turn (goal.at.overflow_add-sum c).After-shared_slice_known-in-loop-i-1 in
-    omega (arith, small (called l).pre l.before.loop.inv l.loop-test.taken _ (adds c), few l)
+    let more = adds (goal.at.overflow_add-sum c).After-added-sum in
+    omega (arith, small c.requires c.loop-i.invariant c.loop-i-test.true _ more, few (goal.at.overflow_add-sum c).In-loop-i)
 
 pub loop-i-preserved : goal.loop-i-preserved
 loop-i-preserved c =
-    let l = turn (goal.at.loop-i-preserved c).After-shared_slice_known-in-loop-i-1 in one_more (called l).pre l.before.loop.inv l.loop-test.taken _ (adds c)
+    one_more c.requires c.loop-i.invariant c.loop-i-test.true _ (adds (goal.at.loop-i-preserved c).After-added-sum)
 
 pub returns : goal.returns
 returns c = all-added c.requires c.loop-i.invariant c.loop-i-test.false
@@ -90,10 +80,10 @@ pub offset_bounds-rooms-at : goal.offset_bounds-rooms-at
 offset_bounds-rooms-at c = omega (arith, place (goal.at.offset_bounds-rooms-at c).In-loop-i)
 
 pub bounds-rooms-at : goal.bounds-rooms-at
-bounds-rooms-at c = place (turn c)
+bounds-rooms-at c = place (goal.at.bounds-rooms-at c).In-loop-i
 
 pub overflow_add-i : goal.overflow_add-i
-overflow_add-i c = omega (arith, few (turn (goal.at.overflow_add-i c).After-shared_slice_known-in-loop-i-1))
+overflow_add-i c = omega (arith, few (goal.at.overflow_add-i c).In-loop-i)
 
 pub loop-i-smaller : goal.loop-i-smaller
-loop-i-smaller c = omega (arith, (turn (goal.at.loop-i-smaller c).After-shared_slice_known-in-loop-i-1).loop-test.taken)
+loop-i-smaller c = omega (arith, c.loop-i-test.true)

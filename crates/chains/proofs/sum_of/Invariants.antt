@@ -1,10 +1,6 @@
 -- `chains::sum_of` meets its contract: the sum over the steps that are passed. Assumes nothing.
-use Prim.Native.Nat.{◌+◌, ◌-◌, ◌<◌}
-use native.Mathlib.Omega.{arith}
-use mathlib.Core.Path.{◌≡◌}
-use lib.ListN.{length, get_or}
-use Rattle.chains.specs.Promises.{no_spot, place_in, adding}
-use Rattle.chains.proofs.Adding.{Adding, none_added, small, one_more, all-added}
+use Prim.Native.Nat.{◌-◌}
+use Rattle.chains.proofs.Adding.{Adding}
 use Rattle.chains.proofs.sum_of.Given as goal
 
 abbrev pub invariant-loop-i : goal.invariant-loop-i
