@@ -1,8 +1,16 @@
 // The chain program: a table file and a list of steps in, the delay along the chain out.
+#![tactic(auto)]
+
 ghost use Rattle.io.specs.Counts.{IsPrefixLen};
 
 use chains::{About, Delayed};
-use libc::{STDERR_FILENO, STDOUT_FILENO};
+use std::env::FillError;
+use std::fs;
+use std::fs::File;
+use std::io::Read;
+use std::os::fd::AsRawFd;
+use std::rt::{Env, Files};
+use tell::{STDERR_FILENO, STDOUT_FILENO};
 
 // How many bytes of a file were read, and whether it could be read at all.
 #[derive(Drop)]
@@ -18,21 +26,34 @@ fn tell_unreadable(name: &[u8]) {
     io::write_all(STDERR_FILENO, b"\n");
 }
 
+// Opens a file for reading. None where it cannot be opened or read, or where its name is no UTF-8, as each path of std is.
+fn open_read<R: Files>(rt: &R, name: &[u8]) -> Option<R::File> {
+    let path = str::from_utf8(name).ok()?;
+    let mut file = fs::open(rt, path).ok()?;
+    // a folder can be opened, but not read
+    file.read(&mut [0u8; 0]).ok()?;
+    Some(file)
+}
+
 // Reads the front of the file that an argument names, as much of it as there is room for.
-fn read_front(argument: usize, bytes: &mut [u8]) -> Front
+fn read_front(rt: &(impl Env + Files<File = File>), argument: usize, bytes: &mut [u8]) -> Front
     ensures { IsPrefixLen result.count bytes.new }
 {
     let mut name = io::buffer();
-    let n = os::arg(argument, &mut name);
-    let fd = os::open_read(&name[..n]);
-    // a folder can be opened, but not read; where nothing was opened, reading fails as well
-    let read = libc::read(fd, &mut bytes[..0]) == 0;
-    if !read {
-        tell_unreadable(&name[..n]);
+    let n = rt.arg(argument, &mut name).unwrap_or(0);
+    match open_read(rt, &name[..n]) {
+        Some(file) => {
+            let count = io::read_full(file.as_raw_fd(), bytes);
+            Front { read: true, count }
+        }
+        None => {
+            tell_unreadable(&name[..n]);
+            Front {
+                read: false,
+                count: 0,
+            }
+        }
     }
-    let count = io::read_full(fd, bytes);
-    libc::close(fd);
-    Front { read, count }
 }
 
 // Prints the delay, or what is refused and why.
@@ -60,19 +81,28 @@ fn print(answer: Delayed) {
     tell::verdict(STDOUT_FILENO, verdict);
 }
 
+// Whether the program was started with an argument of that number; its own name is number 0.
+fn has_argument(rt: &impl Env, argument: usize) -> bool {
+    let mut front = [0u8; 1];
+    match rt.arg(argument, &mut front) {
+        Err(FillError::NotPresent) => false,
+        Ok(_) | Err(FillError::TooLong) => true,
+    }
+}
+
 // Reads both files: of a table 5,124 bytes are enough to judge it, of a list 132.
-fn main() {
-    if os::arg_count() != 3 {
+fn main(rt: HostRuntime) {
+    if !has_argument(&rt, 2) || has_argument(&rt, 3) {
         io::write_all(STDERR_FILENO, b"chain: name a table file and a list file\n");
         return;
     }
     let mut table = [0u8; 5124];
-    let table_front = read_front(1, &mut table);
+    let table_front = read_front(&rt, 1, &mut table);
     if !table_front.read {
         return;
     }
     let mut list = [0u8; 132];
-    let list_front = read_front(2, &mut list);
+    let list_front = read_front(&rt, 2, &mut list);
     if !list_front.read {
         return;
     }

@@ -1,5 +1,7 @@
 // The export program: a table file in, its comma-separated lines out.
-use libc::{STDIN_FILENO, STDOUT_FILENO};
+#![tactic(auto)]
+
+use tell::{STDIN_FILENO, STDOUT_FILENO};
 
 // Reads a table file on standard input, of which 5,124 bytes are enough to judge it, and writes its lines; of a refused file it writes
 // only a line on standard error.

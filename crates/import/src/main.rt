@@ -1,5 +1,7 @@
 // The import program: comma-separated lines in, their table file out.
-use libc::{STDIN_FILENO, STDOUT_FILENO};
+#![tactic(auto)]
+
+use tell::{STDIN_FILENO, STDOUT_FILENO};
 
 // Reads a text on standard input and writes its table file; of a refused text it writes only a line on standard error. A good text
 // has at most 14,464 bytes, so that a longer one than fits here is refused by what does.

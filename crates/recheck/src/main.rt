@@ -1,6 +1,8 @@
 // The recheck program: a table file in, its rows checked against each other as after 10,000 keystrokes, the last verdict out.
-use libc::{STDIN_FILENO, STDOUT_FILENO};
+#![tactic(auto)]
+
 use table::{Table, Verdict};
+use tell::{STDIN_FILENO, STDOUT_FILENO};
 
 // How many keystrokes there are; a check follows each.
 const KEYSTROKES: u32 = 10000;

@@ -1,5 +1,7 @@
 // The report program: a table file in, its timing sheet out.
-use libc::{STDIN_FILENO, STDOUT_FILENO};
+#![tactic(auto)]
+
+use tell::{STDIN_FILENO, STDOUT_FILENO};
 
 // Reads a table file on standard input and prints its timing sheet: 5,124 bytes are enough to judge any file, and any sheet fits.
 fn main() {

@@ -1,5 +1,7 @@
 // The samples program: reads table files and writes them back; for each the code, its number, the rows, and the bytes written.
-use libc::STDOUT_FILENO;
+#![tactic(auto)]
+
+use tell::STDOUT_FILENO;
 
 // Prints a number and what follows it.
 fn show(n: usize, end: &[u8]) {

@@ -1,6 +1,14 @@
-// What the programs tell of a verdict.
-use libc::STDERR_FILENO;
+// What the programs tell of a verdict, and the descriptors that they read and write.
+#![tactic(auto)]
+
 use table::Verdict;
+
+// The three descriptors that a program is started with, by C's names and numbers.
+pub const STDIN_FILENO: i32 = 0;
+
+pub const STDOUT_FILENO: i32 = 1;
+
+pub const STDERR_FILENO: i32 = 2;
 
 // Writes a verdict behind what it speaks of: ` code C number N`.
 pub fn verdict(fd: i32, v: Verdict) {
