@@ -21,7 +21,7 @@ use Rattle.table.specs.Clash.{breaks, clash_after, clash, rule_verdict, broken}
 clash-most : (f : Row → Row → Bool) (earlier rs : List Row) → clash_after f earlier rs ≤ length rs
 unfolding clash_after
 clash-most f earlier [] = omega arith
-clash-most f earlier (r ∷ rs) = either_way (any (f r) earlier) (clash-most f (earlier ++ (r ∷ [])) rs)
+clash-most f earlier (r ∷ rs) = either_way _ (clash-most f (earlier ++ (r ∷ [])) rs)
   where
     either_way : (b : Bool) {m n : ℕ} → m ≤ n → pick b zero (suc m) ≤ suc n
     either_way true h = omega arith

@@ -32,11 +32,11 @@ pub overflow_add-result : goal.overflow_add-result
 overflow_add-result c = let k = c.loop-digit.invariant in
     omega (arith, k.within (some k c.if-p-at.false), some k c.if-p-at.false)
 
-pub returns-then-text-at-eq48 : goal.returns-then-text-at-eq48
-returns-then-text-at-eq48 c = ends_zero c.loop-digit.invariant c.loop-digit-test.false c.if-at-p.true c.if-text-at-eq48.true
-
 pub returns-else-text-at-eq48 : goal.returns-else-text-at-eq48
 returns-else-text-at-eq48 c = ends_got c.loop-digit.invariant c.loop-digit-test.false c.if-p-at.false (λ h. c.if-text-at-eq48.false)
+
+pub returns-then-text-at-eq48 : goal.returns-then-text-at-eq48
+returns-then-text-at-eq48 c = ends_zero c.loop-digit.invariant c.loop-digit-test.false c.if-at-p.true c.if-text-at-eq48.true
 
 pub returns-else-at-p : goal.returns-else-at-p
 returns-else-at-p c = ends_got c.loop-digit.invariant c.loop-digit-test.false c.if-p-at.false (λ h e. omega (arith, h, c.if-at-p.false))
