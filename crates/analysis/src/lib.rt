@@ -16,7 +16,7 @@ use cores::{Asked, Core};
 use table::{Row, Table, Verdict};
 
 // What is said of a core, and how many bounds were written.
-#[derive(Drop)]
+#[derive(Clone, Copy)]
 pub struct Analysed {
     pub verdict: Verdict,
     pub count: usize,

@@ -10,7 +10,7 @@ ghost use Rattle.bounds.specs.Promises.{AtPart, AtJob, OwnRow, JobLeft, end_of_p
 pub const LIMIT: u64 = 16777215;
 
 // What a search found, and how often it worked out the right side.
-#[derive(Drop)]
+#[derive(Clone, Copy)]
 pub struct Answer {
     pub found: model::Found,
     pub rounds: u64,
@@ -83,7 +83,7 @@ pub fn window_of(loads: &[u32], blocking: u64) -> Answer
 }
 
 // The end of a part, and where the search for the next part may begin.
-#[derive(Drop)]
+#[derive(Clone, Copy)]
 pub struct PartEnd {
     pub end: u64,
     pub next: u64,
@@ -172,7 +172,7 @@ fn clear(bounds: &mut [u32])
 }
 
 // What a row brings to its searches: its kind, its blocking and its window.
-#[derive(Drop)]
+#[derive(Clone, Copy)]
 pub struct Own {
     pub cooperative: bool,
     pub blocking: u64,

@@ -17,7 +17,7 @@ use fields::{Field, Next, Way};
 use table::{Table, Verdict};
 
 // What an answer speaks of: with code 0 the whole chain.
-#[derive(Drop)]
+#[derive(Clone, Copy)]
 pub enum About {
     Chain,
     File,
@@ -26,7 +26,7 @@ pub enum About {
 }
 
 // The verdict on a chain, what it speaks of, and the delay: 0 where it is refused.
-#[derive(Drop)]
+#[derive(Clone, Copy)]
 pub struct Delayed {
     pub about: About,
     pub verdict: Verdict,

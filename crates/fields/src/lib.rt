@@ -12,28 +12,28 @@ use numbers::Number;
 use table::{Row, Verdict};
 
 // A number that may stand there, or why there is none.
-#[derive(Drop)]
+#[derive(Clone, Copy)]
 pub enum Field {
     Got { value: u32, next: usize },
     Refused(Verdict),
 }
 
 // A row, and where reading goes on behind its fields or its times, or why there is none.
-#[derive(Drop)]
+#[derive(Clone, Copy)]
 pub enum Head {
     Got { row: Row, next: usize },
     Refused(Verdict),
 }
 
 // Where reading goes on, or why it does not.
-#[derive(Drop)]
+#[derive(Clone, Copy)]
 pub enum Next {
     At(usize),
     Refused(Verdict),
 }
 
 // What ends a field.
-#[derive(Drop)]
+#[derive(Clone, Copy)]
 pub enum Ending {
     Comma,
     Line,

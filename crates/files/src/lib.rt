@@ -20,7 +20,7 @@ use fields::{Field, Head, Next, Way};
 use table::{Row, Table, Verdict, Written};
 
 // The verdict on a file, and its table: zeros where the verdict is not good.
-#[derive(Drop)]
+#[derive(Clone, Copy)]
 pub struct Loaded {
     pub verdict: Verdict,
     pub table: Table,

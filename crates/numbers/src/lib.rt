@@ -5,7 +5,7 @@ ghost use Rattle.std.specs.Prelude.{◌≡◌, length, set};
 ghost use Rattle.numbers.specs.Numbers.{number_at, encode, Put};
 
 // What stands at a place of a file: a number and where the next begins, or why there is none.
-#[derive(Drop)]
+#[derive(Clone, Copy)]
 pub enum Number {
     Got { value: u32, next: usize },
     EndsEarly,

@@ -51,7 +51,7 @@ pub enum Verdict {
 }
 
 // The verdict on writing bytes into lent room, and how many were written.
-#[derive(Drop)]
+#[derive(Clone, Copy)]
 pub struct Written {
     pub verdict: Verdict,
     pub count: usize,
