@@ -6,7 +6,7 @@ use Rattle.analysis.proofs.Tabled.{no_core_lem, some_core}
 use Rattle.analysis.proofs.analyse_good.Goals as goal
 
 pub returns-then-core-gt3 : goal.returns-then-core-gt3
-returns-then-core-gt3 c = no_core_lem _ _ _ c.if-core-gt3.true c.refused.ensures
+returns-then-core-gt3 c = no_core_lem _ c.args.core _ c.if-core-gt3.true c.refused.ensures
 
 pub analyse_core-requires : goal.analyse_core-requires
 analyse_core-requires c =
@@ -14,4 +14,4 @@ analyse_core-requires c =
 
 pub returns : goal.returns
 returns c =
-    some_core _ _ _ c.if-core-gt3.false _ c.core_of.ensures c.analyse_core.ensures
+    some_core _ c.args.core _ c.if-core-gt3.false _ c.core_of.ensures c.analyse_core.ensures
