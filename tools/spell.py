@@ -5,7 +5,7 @@ usage: python3 tools/spell.py            at the top of the repository: respells 
        python3 tools/spell.py --table T  with the table T
 
 A line of the table is OLD, a tab, NEW. A name stands between what separates names in a proof file; a name of which OLD is only a part stays.
-What stands in code, in strings and in must-fail edits stays too.
+What stands in code, in strings and in must-fail edits stays too. Run it once: some new names stand as old ones in the table.
 """
 
 import os

@@ -103,7 +103,7 @@ demand2 =
       equations = equations;
       bounds = λ s core room r room' a c tasks g. leaves_bounds s core room r room' a tasks g c;
       passes = passes_exactly;
-      written_is_read_lem = written_is_read_lem;
-      read_is_written_lem = read_is_written_lem;
+      written_is_read = written_is_read_lem;
+      read_is_written = read_is_written_lem;
       isolated = isolated;
     }

@@ -37,6 +37,6 @@ pub record Demand2 : Type 0 where
   pub passes : (s : List ℕ) (core : ℕ) (room : List ℕ) (r : Analysed) (room' : List ℕ) → Analyses s core room r room'
       → (tasks : List Task) → GoodFile s tasks → RoomFor core (on_core core tasks) (length room)
       → (code_of r.verdict ≡ 0) ↔ ((t : Task) → t ∈ on_core core tasks → Meets (on_core core tasks) t)
-  pub written_is_read_lem : WrittenIsRead
-  pub read_is_written_lem : ReadIsWritten
+  pub written_is_read : WrittenIsRead
+  pub read_is_written : ReadIsWritten
   pub isolated : Isolated

@@ -56,7 +56,7 @@ module _ (job : Job) where
   -- and among all
   q_is : q ≡ released run row t0 + j
   unfolding t0 j
-  q_is = omega (arith, released_grows run row t0 tick quiet_tick.by_then, is_released.not-before)
+  q_is = omega (arith, released_grows run row t0 tick quiet_tick.by_then, is_released.not_before)
 
   -- the job is released j periods after t0 or later
   pub later : t0 + j * row.period ≤ tick

@@ -32,7 +32,7 @@ Passed links v = HasPassed (set_a 20) (λ core. together) nobody links 1 v
 -- job 1 of task 1 is released
 first_job : ReleasedIn together a1 1 5
 unfolding machine_ticks
-first_job = record { not-before = lit≤ tt; by_then = lit< tt }
+first_job = record { not_before = lit≤ tt; by_then = lit< tt }
 
 -- it ends
 first_end : By (link a1 0) 1 6
@@ -42,7 +42,7 @@ first_end = inl (lit< tt)
 -- job 1 of task 2 is released
 second_job : ReleasedIn together a2 1 10
 unfolding machine_ticks
-second_job = record { not-before = lit≤ tt; by_then = lit< tt }
+second_job = record { not_before = lit≤ tt; by_then = lit< tt }
 
 -- it ends part 0
 part_end_lem : By (link a2 0) 1 12
@@ -57,7 +57,7 @@ second_end = inl (lit< tt)
 -- job 2 of task 2 is released
 third_job : ReleasedIn together a2 2 20
 unfolding machine_ticks
-third_job = record { not-before = lit≤ tt; by_then = lit< tt }
+third_job = record { not_before = lit≤ tt; by_then = lit< tt }
 
 -- it ends part 1
 third_end : By (link a2 1) 2 24
@@ -78,7 +78,7 @@ by_24 = next tt (lit≤ tt) second_job second_end (next refl (lit≤ tt) third_j
 
 -- where j jobs are released before tick u, one released from then on is job j or a later one
 not_earlier : (task : Task) (u j : ℕ) → j ≤ released together task u → (q t : ℕ) → u ≤ t → ReleasedIn together task q t → j ≤ q
-not_earlier task u j had q t le r = omega (arith, released_grows together task u t le, r.not-before)
+not_earlier task u j had q t le r = omega (arith, released_grows together task u t le, r.not_before)
 
 -- where a task stands
 abbrev stand : Task → ℕ → Stand
@@ -146,5 +146,5 @@ passing_sample =
       third_released = third_job;
       third_done = refl;
       passed_twice = by_24;
-      not-twice_sooner = not_by_23;
+      not_twice_sooner = not_by_23;
     }

@@ -24,4 +24,4 @@ pub record PassingSample : Type 0 where
   pub third_done : stand_at (set_a 20) together 24 a2 ≡ record { done = 3; at = 0; ran = 0 }
   -- so a value that is there at tick 1 passes that chain by tick 24, and not by tick 23
   pub passed_twice : HasPassed (set_a 20) (λ core. together) nobody (link a2 1 ∷ link a2 1 ∷ []) 1 24
-  pub not-twice_sooner : HasPassed (set_a 20) (λ core. together) nobody (link a2 1 ∷ link a2 1 ∷ []) 1 23 → ⊥
+  pub not_twice_sooner : HasPassed (set_a 20) (λ core. together) nobody (link a2 1 ∷ link a2 1 ∷ []) 1 23 → ⊥

@@ -7,7 +7,7 @@ pub machine_sample : MachineSample
 unfolding machine_ticks one_less
 machine_sample =
     record {
-      all-together = refl;
+      all_together = refl;
       part_open = refl;
       part_ended = refl;
       job_done = refl;

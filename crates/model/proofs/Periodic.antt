@@ -31,9 +31,9 @@ module _ (first : Task → ℕ) (task : Task) where
   unfolding released
   spaced q t u h k =
       let at-t : first task + periods t * task.period ≡ t =
-      (one-or_none t).1 (omega (arith, h.not-before, h.by_then)) in
+      (one-or_none t).1 (omega (arith, h.not_before, h.by_then)) in
       let at-u : first task + periods u * task.period ≡ u =
-      (one-or_none u).1 (omega (arith, k.not-before, k.by_then)) in
+      (one-or_none u).1 (omega (arith, k.not_before, k.by_then)) in
       let sooner : t < u =
       not_below (suc t) u
       (λ le.
@@ -41,7 +41,7 @@ module _ (first : Task → ℕ) (task : Task) where
         arith,
         released_grows (periodic first) task (suc u) (suc t) le,
         (one-or_none t).0,
-        h.not-before,
+        h.not_before,
         k.by_then,
       )) in
       let more : periods t < periods u =
@@ -57,7 +57,7 @@ module _ (first : Task → ℕ) (task : Task) where
       let count : periods s ≡ n = ap (λ (d : ℕ). d / task.period) (omega arith) ∙ mul-div_cancel n positive in
       let whole : first task + periods s * task.period ≡ s = ap (λ (k : ℕ). first task + k * task.period) count ∙ at-s in
       let one : (periodic first).release task s ≡ 1 = rw (eq-eqb _ _ whole) in
-      record { not-before = le_refl _; by_then = omega arith }
+      record { not_before = le_refl _; by_then = omega arith }
 
 -- every periodic run of a good core is allowed
 pub periodic_allowed : PeriodicAllowed

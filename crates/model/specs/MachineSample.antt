@@ -47,7 +47,7 @@ one_less =
 -- what a reader can follow with a pencil
 pub record MachineSample : Type 0 where
   -- task 1 cuts in at tick 5, while task 3's first part is open; at tick 14 nothing is left to run
-  pub all-together : ran_in (set_a 20) together 16 ≡ 1 ∷ 2 ∷ 2 ∷ 2 ∷ 3 ∷ 1 ∷ 3 ∷ 3 ∷ 3
+  pub all_together : ran_in (set_a 20) together 16 ≡ 1 ∷ 2 ∷ 2 ∷ 2 ∷ 3 ∷ 1 ∷ 3 ∷ 3 ∷ 3
       ∷ 3 ∷ 1 ∷ 2 ∷ 2 ∷ 2 ∷ 0 ∷ 1 ∷ []
   -- task 3's first part: before tick 6 it has run one of its two ticks, before tick 7 it has ended, at its bound
   pub part_open : stand_at (set_a 20) together 6 (a3 20) ≡ record { done = 0; at = 0; ran = 1 }

@@ -49,18 +49,18 @@ bounds-windows-i c =
 
 pub slice_bounds-bounds_of_row-start : goal.slice_bounds-bounds_of_row-start
 slice_bounds-bounds_of_row-start c =
-    omega (arith, times_fit (goal.at.slice_bounds-bounds_of_row-start c).In-loop-i, times_there (goal.at.slice_bounds-bounds_of_row-start c).In-loop-i)
+    let l = (goal.at.slice_bounds-bounds_of_row-start c).In-loop-i in omega (arith, times_fit l, times_there l)
 
 pub slice_bounds-bounds_of_row-end : goal.slice_bounds-bounds_of_row-end
 slice_bounds-bounds_of_row-end c =
-    omega (arith, times_fit (goal.at.slice_bounds-bounds_of_row-end c).In-loop-i, times_there (goal.at.slice_bounds-bounds_of_row-end c).In-loop-i)
+    let l = (goal.at.slice_bounds-bounds_of_row-end c).In-loop-i in omega (arith, times_fit l, times_there l)
 
 pub bounds_of_row-requires : goal.bounds_of_row-requires
 bounds_of_row-requires c =
-    let times : c.loop-i.a + count (goal.at.bounds_of_row-requires c).In-loop-i ≤ length c.args.c.own.times
-    = omega (arith, times_fit (goal.at.bounds_of_row-requires c).In-loop-i, times_there (goal.at.bounds_of_row-requires c).In-loop-i) in (
+    let l = (goal.at.bounds_of_row-requires c).In-loop-i in
+    let times : c.loop-i.a + count l ≤ length c.args.c.own.times = omega (arith, times_fit l, times_there l) in (
       bounding c.requires c.loop-i.invariant c.loop-i-test.true,
-      part_length _ _ _ (room_fit (goal.at.bounds_of_row-requires c).In-loop-i) ∙ sym (part_length _ _ _ times),
+      part_length _ _ _ (room_fit l) ∙ sym (part_length _ _ _ times),
     )
 
 pub bounds-room-e : goal.bounds-room-e

@@ -47,7 +47,9 @@ pub put_numbers-p-requires : goal.put_numbers-p-requires
 put_numbers-p-requires c = rw c.fields_of-fields.ensures (omega arith, fields_fit c.args.row _ c.requires.0 c.requires.1)
 
 pub put_numbers-q-requires : goal.put_numbers-q-requires
-put_numbers-q-requires c = (c.requires.0, times_fit c.args.row _ c.requires.0 c.requires.1 (fields_put (goal.at.put_numbers-q-requires c).After-put_numbers-p))
+put_numbers-q-requires c =
+    let put = fields_put (goal.at.put_numbers-q-requires c).After-put_numbers-p in
+    (c.requires.0, times_fit c.args.row _ c.requires.0 c.requires.1 put)
 
 pub bounds-out-q : goal.bounds-out-q
 bounds-out-q c = omega (arith, (left (goal.at.bounds-out-q c).After-put_numbers-q).fits.room)

@@ -43,13 +43,22 @@ pub returns-then-code_of-ne0 : goal.returns-then-code_of-ne0
 returns-then-code_of-ne0 c = rw c.refused.ensures (refuses_fault _ _ _ _ _ c.fault_of-fault.ensures c.code_of.ensures c.if-code_of-ne0.true)
 
 pub put_lines-n-requires : goal.put_lines-n-requires
-put_lines-n-requires c = (fault_free (goal.at.put_lines-n-requires c).Else-code_of-ne0, record { room = omega (arith, short_here (goal.at.put_lines-n-requires c).Else-code_of-ne0) })
+put_lines-n-requires c =
+    let good = (goal.at.put_lines-n-requires c).Else-code_of-ne0 in
+    (fault_free good, record { room = omega (arith, short_here good) })
 
 pub slice_bounds-text-end : goal.slice_bounds-text-end
-slice_bounds-text-end c = (worked-here (goal.at.slice_bounds-text-end c).After-put_lines-n (short_here (goal.at.slice_bounds-text-end c).Else-code_of-ne0)).within
+slice_bounds-text-end c =
+    let at = goal.at.slice_bounds-text-end c in
+    (worked-here at.After-put_lines-n (short_here at.Else-code_of-ne0)).within
 
 pub slice_bounds-write_bytes-end : goal.slice_bounds-write_bytes-end
-slice_bounds-write_bytes-end c = sym (length-take-le _ _ (worked-here (goal.at.slice_bounds-write_bytes-end c).After-put_lines-n (short_here (goal.at.slice_bounds-write_bytes-end c).Else-code_of-ne0)).within)
+slice_bounds-write_bytes-end c =
+    let at = goal.at.slice_bounds-write_bytes-end c in
+    sym (length-take-le _ _ (worked-here at.After-put_lines-n (short_here at.Else-code_of-ne0)).within)
 
 pub returns : goal.returns
-returns c = nothing_against _ _ _ (fault_free (goal.at.returns c).Else-code_of-ne0) (rw (sym (worked-here (goal.at.returns c).After-put_lines-n (short_here (goal.at.returns c).Else-code_of-ne0)).front) c.write_bytes.ensures)
+returns c =
+    let at = goal.at.returns c in
+    let front = (worked-here at.After-put_lines-n (short_here at.Else-code_of-ne0)).front in
+    nothing_against _ _ _ (fault_free at.Else-code_of-ne0) (rw (sym front) c.write_bytes.ensures)

@@ -16,7 +16,8 @@ pub loop-digit-smaller : goal.loop-digit-smaller
 loop-digit-smaller c = omega (arith, inside c.loop-digit.invariant c.loop-digit-test.true)
 
 pub loop-digit-preserved : goal.loop-digit-preserved
-loop-digit-preserved c = turn c.loop-digit.invariant c.loop-digit-test.true _ _ c.with_digit-value.ensures c.digit_at-digit-in-loop-digit.ensures
+loop-digit-preserved c =
+    turn c.loop-digit.invariant c.loop-digit-test.true _ _ c.with_digit-value.ensures c.digit_at-digit-in-loop-digit.ensures
 
 pub returns-then-p-at : goal.returns-then-p-at
 returns-then-p-at c = ends_none c.loop-digit.invariant c.loop-digit-test.false c.if-p-at.true

@@ -34,7 +34,8 @@ slot_here c =
 
 pub read_times-requires : goal.read_times-requires
 read_times-requires c =
-    rw (slot_here (goal.at.read_times-requires c).In-Got) ((good (goal.at.read_times-requires c).In-Got).parts.least, (good (goal.at.read_times-requires c).In-Got).parts.most)
+    let g = (goal.at.read_times-requires c).In-Got in
+    rw (slot_here g) ((good g).parts.least, (good g).parts.most)
 
 pub returns-in-Refused : goal.returns-in-Refused
 returns-in-Refused c =
@@ -45,8 +46,9 @@ returns-in-Refused c =
 pub returns-in-Refused-read_times : goal.returns-in-Refused-read_times
 returns-in-Refused-read_times c =
     let a = c.args in
-    row-times_stop (number_by a.way a.bytes.now) (times_by a.way a.bytes.now) a.used a.at (got (goal.at.returns-in-Refused-read_times c).In-Got) _
-    (rw (slot_here (goal.at.returns-in-Refused-read_times c).In-Got, c.in-Refused-read_times.is) at c.read_times.ensures)
+    let g = (goal.at.returns-in-Refused-read_times c).In-Got in
+    row-times_stop (number_by a.way a.bytes.now) (times_by a.way a.bytes.now) a.used a.at (got g) _
+    (rw (slot_here g, c.in-Refused-read_times.is) at c.read_times.ensures)
 
 pub returns-in-At : goal.returns-in-At
 returns-in-At c =

@@ -8,7 +8,9 @@ use Rattle.fields.proofs.Valued.{unquoted, inner_stops, unclosed, closed}
 use Rattle.fields.proofs.value_at.Goals as goal
 
 pub returns-then-byte_at-ne34 : goal.returns-then-byte_at-ne34
-returns-then-byte_at-ne34 c = c.decimal_at.ensures ∙ ap (λ x. as_field (held x)) (sym (unquoted _ _ (λ e. c.if-byte_at-ne34.true (c.byte_at.ensures ∙ e))))
+returns-then-byte_at-ne34 c =
+    c.decimal_at.ensures
+    ∙ ap (λ x. as_field (held x)) (sym (unquoted _ _ (λ e. c.if-byte_at-ne34.true (c.byte_at.ensures ∙ e))))
 
 pub overflow_add-at : goal.overflow_add-at
 overflow_add-at c = let a = c.args in

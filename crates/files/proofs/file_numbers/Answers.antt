@@ -135,7 +135,8 @@ room-here c =
 
 pub put_row-requires : goal.put_row-requires
 put_row-requires c =
-    rw (lent_length (here (goal.at.put_row-requires c).In-loop-i), length-take, length-drop) (omega (arith, room-here (goal.at.put_row-requires c).In-loop-i))
+    let l = (goal.at.put_row-requires c).In-loop-i in
+    rw (lent_length (here l), length-take, length-drop) (omega (arith, room-here l))
 
 pub loop-i-preserved : goal.loop-i-preserved
 loop-i-preserved c =

@@ -34,7 +34,8 @@ returns-then-code_of-ne0 c =
 pub returns-then-out-size : goal.returns-then-out-size
 returns-then-out-size c =
     let size = sym (c.size_of_all-size.ensures ∙ ap length (file_is _ _ _ _ c.file_numbers-n.ensures)) in
-    rw c.refused-then-out-size.ensures (refuses_room _ _ _ (fault_free (goal.at.returns-then-out-size c).Else-code_of-ne0) _ size c.if-out-size.true)
+    let fine = fault_free (goal.at.returns-then-out-size c).Else-code_of-ne0 in
+    rw c.refused-then-out-size.ensures (refuses_room _ _ _ fine _ size c.if-out-size.true)
 
 pub slice_bounds-put_all-end : goal.slice_bounds-put_all-end
 slice_bounds-put_all-end c =

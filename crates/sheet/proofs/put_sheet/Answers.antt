@@ -55,7 +55,8 @@ put_file_line-requires c =
 
 pub returns-then-code_of-ne0 : goal.returns-then-code_of-ne0
 returns-then-code_of-ne0 c =
-    put_as (refused_line_lem (read_of (goal.at.returns-then-code_of-ne0 c).After-read-loaded) c.code_of.ensures c.if-code_of-ne0.true) c.put_file_line.ensures
+    let r = read_of (goal.at.returns-then-code_of-ne0 c).After-read-loaded in
+    put_as (refused_line_lem r c.code_of.ensures c.if-code_of-ne0.true) c.put_file_line.ensures
 
 pub put_cores-requires : goal.put_cores-requires
 put_cores-requires c =

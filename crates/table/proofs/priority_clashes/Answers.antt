@@ -65,7 +65,8 @@ loop-i-init c =
 
 pub returns-then-taken-slot : goal.returns-then-taken-slot
 returns-then-taken-slot c =
-    here c.loop-i.invariant c.loop-i-test.true (placed (goal.at.returns-then-taken-slot c).Else-not-has_place) (rw c.slot_of-slot.ensures at c.if-taken-slot.true)
+    here c.loop-i.invariant c.loop-i-test.true (placed (goal.at.returns-then-taken-slot c).Else-not-has_place)
+    (rw c.slot_of-slot.ensures at c.if-taken-slot.true)
 
 pub loop-i-preserved : goal.loop-i-preserved
 loop-i-preserved c =

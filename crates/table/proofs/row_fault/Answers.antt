@@ -33,4 +33,6 @@ pub slice_bounds-times_fault-end : goal.slice_bounds-times_fault-end
 slice_bounds-times_fault-end c = omega (arith, room_of (goal.at.slice_bounds-times_fault-end c).Else-code_of-ne0)
 
 pub times_fault-requires : goal.times_fault-requires
-times_fault-requires c = rw (part_length _ _ _ (room_of (goal.at.times_fault-requires c).Else-code_of-ne0)) (good-fields (goal.at.times_fault-requires c).Else-code_of-ne0).parts.most
+times_fault-requires c =
+    let good = (goal.at.times_fault-requires c).Else-code_of-ne0 in
+    rw (part_length _ _ _ (room_of good)) (good-fields good).parts.most
