@@ -161,11 +161,10 @@ fine_tasks : (used : ℕ) (ts : List Task) → ((i : ℕ) (t : Task) → Place t
     → FineTasks used ts
 unfolding FineTasks total parts Place
 fine_tasks used [] g h = tt
-fine_tasks used (t ∷ ts) g h =
-    (
-      fine_task used t (g 0 t refl) (unfold parts in omega arith),
-      fine_tasks (used + length t.times) ts (λ i u p. g (suc i) u p) (omega arith),
-    )
+fine_tasks used (t ∷ ts) g h = (
+  fine_task used t (g 0 t refl) (unfold parts in omega arith),
+  fine_tasks (used + length t.times) ts (λ i u p. g (suc i) u p) (omega arith),
+)
 
 -- good rows
 rows-good : (tasks : List Task) → GoodRows tasks → GoodTasks tasks

@@ -1,6 +1,5 @@
 -- `sheet::put_bound` meets its contract: the five numbers of its line. Assumes nothing.
 use native.Mathlib.Omega.{arith}
-use borrow.Author.Rules.{rules}
 use Rattle.sheet.specs.Sheet.{bound_line}
 use Rattle.sheet.proofs.put_bound.Goals as goal
 

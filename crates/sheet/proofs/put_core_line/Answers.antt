@@ -1,5 +1,4 @@
 -- `sheet::put_core_line` meets its contract. Assumes nothing.
-use borrow.Author.Rules.{rules}
 use Rattle.text.specs.Text.{decimal}
 use Rattle.sheet.specs.Sheet.{core_word, core_line}
 use Rattle.text.proofs.Puts.{starts, last}

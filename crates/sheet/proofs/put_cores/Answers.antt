@@ -1,15 +1,12 @@
 -- `sheet::put_cores` meets its contract: the header, then core by core. Assumes nothing.
-use Prim.Native.Nat.{ℕ, ◌-◌}
+use Prim.Native.Nat.{ℕ}
 use native.Mathlib.Omega.{arith}
-use borrow.Author.Rules.{rules}
 use mathlib.Core.Path.{refl}
 use mathlib.Core.List.{List}
-use lib.ListN.{drop}
 use Rattle.table.specs.declared.Table.{Table}
 use Rattle.table.specs.Memory.{tasks_of}
 use Rattle.text.specs.Text.{joined}
-use Rattle.lists.specs.Lists.{each, up_to}
-use Rattle.sheet.specs.Sheet.{header, core_text, good_text}
+use Rattle.sheet.specs.Sheet.{header, good_text}
 use Rattle.text.specs.Promises.{Fits, PutAt}
 use Rattle.text.proofs.Puts.{Putting, starts, room, turn, last, piece_room, piece_turn, pieces_end}
 use Rattle.sheet.proofs.put_cores.Invariants.{cores}

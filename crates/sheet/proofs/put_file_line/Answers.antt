@@ -1,5 +1,4 @@
 -- `sheet::put_file_line` meets its contract. Assumes nothing.
-use borrow.Author.Rules.{rules}
 use Rattle.sheet.specs.Sheet.{file_word, file_line}
 use Rattle.text.proofs.Puts.{starts, last}
 use Rattle.text.proofs.Lines.{word_room, word_turn}

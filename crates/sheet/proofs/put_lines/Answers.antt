@@ -1,14 +1,7 @@
 -- `sheet::put_lines` meets its contract: a line for each bound. Assumes nothing.
-use Prim.Native.Nat.{ℕ, ◌+◌, ◌-◌}
 use native.Mathlib.Omega.{arith}
-use borrow.Author.Rules.{rules}
-use mathlib.Core.List.{List}
-use lib.ListN.{length, get_or, drop}
-use Rattle.table.specs.declared.Row.{Row}
-use Rattle.lists.specs.Lists.{each, up_to}
-use Rattle.sheet.specs.Sheet.{bound_line}
 use Rattle.sheet.specs.Promises.{row_text}
-use Rattle.text.proofs.Puts.{Putting, starts, piece_room, piece_turn, pieces_end}
+use Rattle.text.proofs.Puts.{starts, piece_room, piece_turn, pieces_end}
 use Rattle.sheet.proofs.put_lines.Invariants.{bound_at}
 use Rattle.sheet.proofs.put_lines.Goals as goal
 

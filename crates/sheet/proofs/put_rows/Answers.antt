@@ -15,7 +15,7 @@ use Rattle.table.specs.Memory.{zero_row, parts_in, used_rows}
 use Rattle.table.proofs.Rows.{length_mapped}
 use Rattle.text.specs.Promises.{Fits, PutAt}
 use Rattle.sheet.specs.Promises.{BoundsFor, row_text, rows_text}
-use Rattle.text.proofs.Puts.{Putting, starts, room, turn, ends}
+use Rattle.text.proofs.Puts.{starts, room, turn, ends}
 use Rattle.sheet.proofs.put_rows.Invariants.{Rows}
 use Rattle.sheet.proofs.put_rows.Goals.{In-loop-i}
 use Rattle.sheet.proofs.put_rows.Goals as goal

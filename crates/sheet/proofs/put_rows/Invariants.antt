@@ -1,21 +1,11 @@
 -- `sheet::put_rows` meets its contract: row by row, each with its own bounds. Assumes nothing.
-use Prim.Native.Nat.{ℕ, ◌+◌, ◌-◌, ◌≤◌, ◌<◌}
-use native.Mathlib.Omega.{arith}
-use borrow.Author.Rules.{rules}
-use mathlib.Core.Path.{◌≡◌, refl, ap}
-use mathlib.Core.List.{List, ◌∷◌, ◌++◌}
-use lib.ListN.{length, get_or, take, drop, drop_of_length-le}
-use lib.Seq.{drop-drop, length-take-le}
-use Rattle.lists.specs.Lists.{total}
-use Rattle.lists.proofs.Parts.{part_is, part_length}
-use Rattle.lists.proofs.Walks.{taken_more}
-use Rattle.table.specs.declared.Row.{Row}
+use Prim.Native.Nat.{ℕ, ◌+◌, ◌-◌, ◌≤◌}
+use mathlib.Core.List.{List}
+use lib.ListN.{length, drop}
 use Rattle.table.specs.declared.Table.{Table}
-use Rattle.table.specs.Memory.{zero_row, parts_in, used_rows}
-use Rattle.table.proofs.Rows.{length_mapped}
-use Rattle.text.specs.Promises.{Fits, PutAt}
-use Rattle.sheet.specs.Promises.{BoundsFor, row_text, rows_text}
-use Rattle.text.proofs.Puts.{Putting, starts, room, turn, ends}
+use Rattle.table.specs.Memory.{parts_in, used_rows}
+use Rattle.sheet.specs.Promises.{BoundsFor, rows_text}
+use Rattle.text.proofs.Puts.{Putting}
 use Rattle.sheet.proofs.put_rows.Given as goal
 
 pub record Rows (core : ℕ) (t : Table) (bounds out₀ : List ℕ) (at : ℕ) (out : List ℕ) (p used i : ℕ) : Type 0 where

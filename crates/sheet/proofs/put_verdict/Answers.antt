@@ -1,7 +1,6 @@
 -- `sheet::put_verdict` meets its contract: two words, each with its number. Assumes nothing.
 use Prim.Native.Nat.{ℕ}
 use Rattle.table.specs.declared.Verdict.{Verdict}
-use borrow.Author.Rules.{rules}
 use mathlib.Core.List.{List}
 use lib.ListN.{drop}
 use Rattle.text.specs.Text.{decimal, line}
