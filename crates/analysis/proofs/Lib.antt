@@ -1,7 +1,6 @@
-pub mod Said
 pub mod Given
 pub mod Tops
-pub mod Lengths
+pub mod Said
 pub mod Cored
 pub mod Sought
 pub mod BoundsPut

@@ -1,22 +1,33 @@
 -- What is said of a core's rows, from the highest row without a window and the highest that misses its deadline. Assumes nothing.
-use Prim.Native.Nat.{ℕ}
+use Prim.Native.Nat.{ℕ, ◌≤◌}
+use borrow.Author.Tests.{ltb-false}
 use mathlib.Core.Path.{◌≡◌, refl, sym, ap, subst, ◌∙◌}
-use mathlib.Core.Bool.{not}
+use mathlib.Core.Bool.{Bool, true, false, not}
 use mathlib.Core.List.{List}
 use mathlib.Core.Option.{Option, some, none}
-use Rattle.lists.specs.Lists.{◌∈◌}
+use lib.Dec.{ltb}
+use Rattle.std.specs.Prelude.{Result, Ok, Err}
+use Rattle.arrayvec.specs.ArrayVec.{ArrayVec}
+use Rattle.lists.specs.Lists.{pick}
 use Rattle.lists.proofs.Tests.{never}
-use Rattle.model.specs.declared.Found.{Found}
+use Rattle.model.specs.Least.{Found}
 use Rattle.model.specs.Task.{Task}
-use Rattle.model.specs.Rows.{GoodTask}
 use Rattle.model.specs.Least.{found}
-use Rattle.model.specs.Bounds.{highest, id_of, judged_by, core_verdict}
+use Rattle.model.specs.Bounds.{highest, judged_by, core_verdict}
 use Rattle.model.specs.Verdict.{AllWindows, Judged}
 use Rattle.model.proofs.Verdict.{verdict_says}
-use Rattle.model.proofs.Highest.{none_highest, id_none, id_some}
-use Rattle.table.specs.declared.Verdict.TheVariants.{Good, NoWindow, Missed}
-use Rattle.analysis.specs.Analysis.{named}
-use Rattle.analysis.specs.Promises.{lacks, late}
+use Rattle.model.proofs.Highest.{none_highest}
+use Rattle.table.specs.declared.Verdict.{Verdict}
+use Rattle.table.specs.declared.Verdict.TheVariants.{NoRoom, NoWindow}
+use Rattle.table.specs.Verdicts.{said}
+use Rattle.analysis.specs.Analysis.{needed, named, room_said, writes}
+use Rattle.analysis.specs.Promises.{lacks, late, said_late, WindowsOf, WindowsFor}
+
+-- where the highest late row is said, bounds are written
+pub late-writes : (o : Option Task) → writes (said (said_late o)) ≡ true
+unfolding writes
+late-writes none = refl
+late-writes (some t) = refl
 
 module _ (rows : List Task) where
   -- what both say
@@ -30,7 +41,7 @@ module _ (rows : List Task) where
   none_lacks w = none_highest (lacks rows) rows (λ t m e. never e (ap (λ (a : Found). not (found a)) (w t m).1))
 
   -- and the other way round
-  lacks_none : highest (lacks rows) rows ≡ none → AllWindows rows
+  pub lacks_none : highest (lacks rows) rows ≡ none → AllWindows rows
   unfolding judged_by
   lacks_none e = of (highest (late rows) rows) refl
     where
@@ -38,30 +49,40 @@ module _ (rows : List Task) where
       of none q = (subst (Judged rows) (verdict-of none none e q) (verdict_says rows)).windows
       of (some t) q = (subst (Judged rows) (verdict-of none (some t) e q) (verdict_says rows)).windows
 
-  module _ (good : (t : Task) → t ∈ rows → GoodTask t) (n : ℕ) where
-    module _ (same : n ≡ id_of (highest (lacks rows) rows)) where
-      -- 11 names the highest row without a window
-      pub no_window_lem : (n ≡ 0 → ⊥) → named (core_verdict rows) ≡ NoWindow n
-      unfolding named judged_by id_of
-      no_window_lem h =
-          let w = id_some (lacks rows) rows good (λ e. h (same ∙ e)) in
-          let own : n ≡ w.0.id = same ∙ ap id_of w.1 in
-          ap named (verdict-of (some w.0) _ w.1 refl) ∙ ap NoWindow (sym own)
+  -- 11 names the highest row without a window
+  pub no_window_lem : (t : Task) → highest (lacks rows) rows ≡ some t → named (core_verdict rows) ≡ NoWindow t.id
+  unfolding named judged_by
+  no_window_lem t e = ap named (verdict-of (some t) _ e refl)
 
-      -- where there is none each row has a window
-      pub all-windows : n ≡ 0 → AllWindows rows
-      all-windows e = lacks_none (id_none (lacks rows) rows good (sym same ∙ e))
+  -- where each row has one, 12 names the highest that misses its deadline, and without one the core is good
+  pub windowed_said : AllWindows rows → named (core_verdict rows) ≡ said (said_late (highest (late rows) rows))
+  unfolding named judged_by
+  windowed_said w = of (highest (late rows) rows) refl
+    where
+      of : (b : Option Task) → highest (late rows) rows ≡ b → named (core_verdict rows) ≡ said (said_late b)
+      of none q = ap named (verdict-of none none (none_lacks w) q)
+      of (some t) q = ap named (verdict-of none (some t) (none_lacks w) q)
 
-    module _ (windows : AllWindows rows) (same : n ≡ id_of (highest (late rows) rows)) where
-      -- 12 names the highest row that misses its deadline
-      pub missed : (n ≡ 0 → ⊥) → named (core_verdict rows) ≡ Missed n
-      unfolding named judged_by id_of
-      missed h =
-          let w = id_some (late rows) rows good (λ e. h (same ∙ e)) in
-          let own : n ≡ w.0.id = same ∙ ap id_of w.1 in
-          ap named (verdict-of none (some w.0) (none_lacks windows) w.1) ∙ ap Missed (sym own)
+  module _ (room : ℕ) where
+    -- where the windows are refused, so is the core, and nothing is written
+    pub windows_refused : {v : Verdict} → WindowsFor rows room (Err v) → (room_said rows room ≡ v) × (writes v ≡ false)
+    unfolding room_said writes
+    windows_refused {v = v} w = of (ltb room (needed rows)) w
+      where
+        none : ◌≡◌ {A = Result (ArrayVec ℕ) Verdict} (Err v) (Err (NoRoom (needed rows))) → v ≡ NoRoom (needed rows)
+        none e = cc
 
-      -- where there is none the core is good
-      pub none_missed : n ≡ 0 → named (core_verdict rows) ≡ Good
-      unfolding named judged_by
-      none_missed e = ap named (verdict-of none none (none_lacks windows) (id_none (late rows) rows good (sym same ∙ e)))
+        of : (b : Bool) → pick b (◌≡◌ {A = Result (ArrayVec ℕ) Verdict} (Err v) (Err (NoRoom (needed rows)))) (WindowsOf rows (Err v))
+            → (pick b (NoRoom (needed rows)) (named (core_verdict rows)) ≡ v) × (writes v ≡ false)
+        of true e = let q = none e in (sym q, rw q)
+        of false u = (no_window_lem u.0 u.1 ∙ sym u.2, rw u.2)
+
+    -- where there are windows there is room, and each row has one
+    pub windows_there : {ls : ArrayVec ℕ} → WindowsFor rows room (Ok ls) → (needed rows ≤ room) × WindowsOf rows (Ok ls)
+    windows_there {ls = ls} w = of (ltb room (needed rows)) refl w
+      where
+        of : (b : Bool) → ltb room (needed rows) ≡ b
+            → pick b (◌≡◌ {A = Result (ArrayVec ℕ) Verdict} (Ok ls) (Err (NoRoom (needed rows)))) (WindowsOf rows (Ok ls))
+            → (needed rows ≤ room) × WindowsOf rows (Ok ls)
+        of true e q = cc
+        of false e u = (ltb-false room (needed rows) e, u)

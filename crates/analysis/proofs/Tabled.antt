@@ -2,23 +2,26 @@
 use Prim.Native.Nat.{ℕ, ◌≤◌, ◌<◌}
 use borrow.Author.Tests.{lt-ltb, le-ltb}
 use mathlib.Core.Path.{◌≡◌, refl, sym, ap, subst, ◌∙◌}
-use mathlib.Core.Bool.{true, false}
+use mathlib.Core.Bool.{false}
 use mathlib.Core.List.{List, []}
 use lib.ListN.{length}
+use Rattle.std.specs.Prelude.{Ok, Err}
 use Rattle.model.specs.Task.{Task}
 use Rattle.model.specs.Bounds.{on_core}
 use Rattle.table.specs.declared.Table.{Table}
+use Rattle.table.specs.declared.GoodTable.{GoodTable}
 use Rattle.table.specs.declared.Verdict.{Verdict}
 use Rattle.table.specs.declared.Verdict.TheVariants.{NoSuchCore}
-use Rattle.table.specs.Verdicts.{code_of, reading}
+use Rattle.table.specs.Verdicts.{judged, ◌or_else◌}
 use Rattle.table.specs.Memory.{tasks_of}
 use Rattle.table.specs.Faults.{fault_of}
-use Rattle.table.proofs.Codes.{is_fault, or-good, fault_stays}
+use Rattle.table.proofs.Codes.{passed, refused, good-code, or-good}
 use Rattle.table.proofs.ReadingCodes.{fault-reading}
-use Rattle.files.specs.declared.Loaded.{Loaded}
-use Rattle.fields.specs.Stepping.{stop}
-use Rattle.files.specs.Reading.{decode, read_answer}
-use Rattle.files.proofs.Stops.{stop_fault, read_stopped, read_went}
+use Rattle.table.proofs.Stored.{tasks-stored}
+use Rattle.fields.specs.Stepping.{Step, stop, go}
+use Rattle.files.specs.Reading.{decode}
+use Rattle.files.specs.Promises.{Loads}
+use Rattle.files.proofs.Stops.{stop_fault}
 use Rattle.cores.specs.declared.Core.{Core}
 use Rattle.cores.specs.Cores.{core_of, tasks_in}
 use Rattle.cores.proofs.AskedRows.{tasks_in_lem}
@@ -49,32 +52,40 @@ module _ (t : Table) (core : ℕ) (room : List ℕ) where
       (subst (λ (rows : List Task). Gives (room_said rows (length room)) rows room r room') own g)
 
   -- the table's own fault
-  pub faulty : {v : Verdict} {k : ℕ} → v ≡ fault_of t → k ≡ code_of v → (k ≡ 0 → ⊥) → {r : Analysed} → r ≡ refusal v
-      → AnalysesTable t core room r room
-  unfolding table_said
-  faulty {v = v} same code h e =
-      gives_none _ v _ room (sym (fault_stays same code _ h))
-      (reading-writes_none v
-      (record { fault = is_fault v (λ z. h (code ∙ z)); read = subst (λ (x : Verdict). reading x ≡ true) (sym same) (fault-reading t) })) e
+  pub faulty : {v : Verdict} → judged (fault_of t) ≡ Err v → {r : Analysed} → r ≡ refusal v → AnalysesTable t core room r room
+  unfolding table_said ◌or_else◌
+  faulty {v = v} e told =
+      let w = refused (fault_of t) (sym e) in
+      gives_none _ v _ room (rw w.0 (sym w.1))
+      (rw w.1 (reading-writes_none (fault_of t) (record { fault = w.0; read = fault-reading t }))) told
 
   -- without one, what its core says
-  pub faultless : code_of (fault_of t) ≡ 0 → {r : Analysed} {room' : List ℕ} → AnalysesGood t core room r room'
+  pub faultless : judged (fault_of t) ≡ Ok tt → {r : Analysed} {room' : List ℕ} → AnalysesGood t core room r room'
       → AnalysesTable t core room r room'
   unfolding table_said
-  faultless fine g = gives_same (sym (or-good (fault_of t) _ fine)) g
+  faultless e g = gives_same (sym (or-good (fault_of t) _ (good-code (fault_of t) (passed (fault_of t) (sym e))))) g
 
-module _ (s : List ℕ) (l : Loaded) (read : l ≡ read_answer s) (core : ℕ) (room : List ℕ) where
+module _ (s : List ℕ) (core : ℕ) (room : List ℕ) {r : Analysed} where
   -- a refused read
-  pub unread : (k : ℕ) → k ≡ code_of l.verdict → (k ≡ 0 → ⊥)
-      → {r : Analysed} → r ≡ refusal l.verdict → Analyses s core room r room
+  pub unread : {v : Verdict} → Loads (decode s) (Err v) → r ≡ refusal v → Analyses s core room r room
   unfolding file_said file_rows
-  unread k code h told =
-      let v = l.verdict in
-      let there : decode s ≡ stop v = read_stopped s l read (λ z. h (code ∙ z)) in
-      rw there (gives_none v v [] room refl (reading-writes_none v (stop_fault s v there)) told)
+  unread {v = v} l told = of (decode s) refl l
+    where
+      of : (x : Step (List Task)) → decode s ≡ x → Loads x (Err v) → Gives (file_said x core (length room)) (file_rows x core) room r room
+      of (stop u) e q =
+          let same : v ≡ u = cc in
+          gives_none u v [] room (sym same) (rw same (reading-writes_none u (stop_fault s u e))) told
+      of (go ts n) e q = let no = q.1 in cc
 
   -- a read table: what its core says
-  pub as_table : code_of l.verdict ≡ 0 → {r : Analysed} {room' : List ℕ} → AnalysesGood l.table core room r room'
+  pub as_table : (good : GoodTable) {room' : List ℕ} → Loads (decode s) (Ok good) → AnalysesGood good.table core room r room'
       → Analyses s core room r room'
   unfolding file_said file_rows
-  as_table fine g = rw (read_went s l read fine).1 g
+  as_table good {room' = room'} l g = of (decode s) l
+    where
+      of : (x : Step (List Task)) → Loads x (Ok good) → Gives (file_said x core (length room)) (file_rows x core) room r room'
+      of (stop u) q = cc
+      of (go ts n) q =
+          let same : good ≡ q.0 = (let p = q.1 in cc) in
+          let own : tasks_of good.table ≡ ts = ap (λ (h : GoodTable). tasks_of h.table) same ∙ ap tasks_of q.2 ∙ tasks-stored ts in
+          rw (← own) g

@@ -1,40 +1,52 @@
--- The row to name, kept as an id and a priority while the rows are gone through. Assumes nothing.
-use Prim.Native.Nat.{◌<◌}
-use borrow.Author.Tests.{lt-ltb}
+-- The row to name, kept while the rows are gone through: the highest of those that pass. Assumes nothing.
 use mathlib.Core.Path.{◌≡◌, refl, sym, ap, ◌∙◌}
 use mathlib.Core.Bool.{Bool, true, false}
 use mathlib.Core.List.{List, [], ◌∷◌, ◌++◌}
-use mathlib.Core.Option.{Option, some, none}
+use mathlib.Core.Option as M
 use lib.Dec.{ltb}
-use Rattle.lists.specs.Lists.{pick}
+use Rattle.std.specs.Prelude.{Option, Some, None, Ok, Err}
 use Rattle.lists.proofs.Tests.{by_test}
 use Rattle.model.specs.Task.{Task}
-use Rattle.model.specs.Bounds.{above, highest, id_of}
+use Rattle.model.specs.Bounds.{above, highest}
 use Rattle.model.proofs.Highest.{with_next, highest_snoc}
-use Rattle.analysis.specs.declared.Top.{Top}
-use Rattle.analysis.specs.Promises.{top_of}
+use Rattle.table.specs.declared.Row.{Row}
+use Rattle.table.specs.declared.Verdict.TheVariants.{Missed}
+use Rattle.table.specs.Memory.{row_of}
+use Rattle.analysis.specs.Promises.{higher_row, top_of, said_late}
 
--- its id
-pub top-id : (o : Option Task) → (top_of o).id ≡ id_of o
-unfolding top_of id_of
-top-id none = refl
-top-id (some t) = refl
-
--- the higher of it and a row with a priority
-next-top : (o : Option Task) (t : Task) → 0 < t.priority
-    → pick (ltb (top_of o).priority t.priority) (top_of (some t)) (top_of o) ≡ top_of (with_next o t)
+-- the higher of it and another row
+next_top : (o : M.Option Task) (t : Task) → higher_row (top_of o) (row_of t) ≡ top_of (with_next o t)
 unfolding top_of with_next above
-next-top none t h = rw (lt-ltb 0 t.priority h)
-next-top (some u) t h = by_test (ltb u.priority t.priority) (λ e. rw e) (λ e. rw e)
+next_top M.none t = refl
+next_top (M.some u) t = by_test (ltb u.priority t.priority) (λ e. rw e) (λ e. rw e)
 
-module _ (p : Task → Bool) (seen : List Task) (t : Task) (top : Top) (so_far : top ≡ top_of (highest p seen)) where
+-- nothing is kept where there is none
+pub top_none : (o : M.Option Task) → top_of o ≡ None → o ≡ M.none
+unfolding top_of
+top_none M.none e = refl
+top_none (M.some t) e = cc
+
+-- what is kept is the row of one of them
+pub top_some : (o : M.Option Task) {r : Row} → top_of o ≡ Some r → (t : Task) × (o ≡ M.some t) × (r ≡ row_of t)
+unfolding top_of
+top_some M.none e = cc
+top_some (M.some t) e = (t, refl, cc)
+
+-- what is said of the highest late row
+pub said_none : (o : M.Option Task) {top : Option Row} → top ≡ top_of o → top ≡ None → Ok tt ≡ said_late o
+said_none o e q = sym (ap said_late (top_none o (sym e ∙ q)))
+
+pub said_some : (o : M.Option Task) {top : Option Row} → top ≡ top_of o → {r : Row} → top ≡ Some r → Err (Missed r.id) ≡ said_late o
+said_some o e q =
+    let w = top_some o (sym e ∙ q) in
+    ap (λ (x : Row). Err (Missed x.id)) w.2 ∙ sym (ap said_late w.1)
+
+module _ (p : Task → Bool) (seen : List Task) (t : Task) {top : Option Row} (so_far : top ≡ top_of (highest p seen)) where
   -- a row that passes is looked at
-  pub top-next : 0 < t.priority → p t ≡ true → (new : Top) → new ≡ pick (ltb top.priority t.priority) (top_of (some t)) top
+  pub top_next : p t ≡ true → {row : Row} → row ≡ row_of t → {new : Option Row} → new ≡ higher_row top row
       → new ≡ top_of (highest p (seen ++ (t ∷ [])))
-  top-next h e new is =
-      is ∙ ap (λ (x : Top). pick (ltb x.priority t.priority) (top_of (some t)) x) so_far
-      ∙ next-top (highest p seen) t h ∙ sym (ap top_of (highest_snoc p seen t ∙ rw e))
+  top_next e own is = is ∙ rw (so_far, own, highest_snoc p seen t, e) (next_top (highest p seen) t)
 
   -- any other is passed over
   pub top_stays : p t ≡ false → top ≡ top_of (highest p (seen ++ (t ∷ [])))
-  top_stays e = so_far ∙ sym (ap top_of (highest_snoc p seen t ∙ rw e))
+  top_stays e = so_far ∙ rw (highest_snoc p seen t, e)

@@ -1,32 +1,23 @@
 // One core's answer: what is said of it, and its bounds in lent room.
 #![tactic(auto)]
 
-ghost use Rattle.std.specs.Prelude.{◌≡◌, ◌≤◌, ◌<◌, length, take, ltb};
-ghost use Rattle.lists.specs.Lists.{pick};
-ghost use Rattle.table.specs.Verdicts.{code_of};
-ghost use Rattle.table.specs.Faults.{fault_of};
+ghost use Rattle.std.specs.Prelude.{◌≡◌, ◌≤◌, length};
 ghost use Rattle.cores.specs.Cores.{tasks_in};
 ghost use Rattle.cores.specs.Promises.{IsCore};
 ghost use Rattle.analysis.specs.Analysis.{refusal, room_said, Gives, Analyses, AnalysesTable};
-ghost use Rattle.analysis.specs.Promises.{AtRow, Bounding, ToBound, window_in, bounds_on, top_row, Windows, Bounded};
+ghost use Rattle.analysis.specs.Promises.{AtRow, Bounding, ToBound, WindowsOf, WindowsFor, BoundedBy, window_in, bounds_on, higher_row};
 ghost use Rattle.analysis.specs.Promises.{AnalysesGood};
 
-use bounds::Own;
+use arrayvec::ArrayVec;
+use bounds::{Loads, Own};
 use cores::{Asked, Core};
-use table::{Row, Table, Verdict};
+use table::{GoodTable, Row, Table, Verdict};
 
-// What is said of a core, and how many bounds were written.
+// What is said of a core, and how many bounds were written: under code 12 all of them, which `Bounds.count` holds.
 #[derive(Clone, Copy)]
 pub struct Analysed {
     pub verdict: Verdict,
     pub count: usize,
-}
-
-// The row to name so far: its id and priority, both 0 for none.
-#[derive(Drop)]
-struct Top {
-    id: u32,
-    priority: u32,
 }
 
 // What is said where no bound is written.
@@ -37,162 +28,143 @@ fn refused(verdict: Verdict) -> Analysed
 }
 
 // The higher of the row to name so far and another.
-fn higher_of(top: Top, row: Row) -> Top
-    ensures { result ≡ pick (ltb top.priority row.priority) (top_row row) top }
+fn higher_of(top: Option<Row>, row: &Row) -> Option<Row>
+    ensures { result ≡ higher_row top row.now }
 {
-    if top.priority < row.priority {
-        return Top {
-            id: row.id,
-            priority: row.priority,
-        };
+    match top {
+        Some(t) if row.priority <= t.priority => top,
+        _ => Some(*row),
     }
-    top
 }
 
-// The window of row `own`, 0 for none.
-fn row_window(asked: [Asked; 64], count: usize, own: usize) -> u32
-    requires { AtRow asked count own }
-    ensures { result ≡ window_in (take count asked) own }
+// The window of row `own`.
+fn row_window(asked: &[Asked], own: usize) -> Option<u64>
+    requires { AtRow asked.now own }
+    ensures { result ≡ window_in asked.now own }
 {
-    let blocking = cores::blocking_of(asked, count, own);
-    let mut loads = [0u32; 128];
-    let n = cores::own_first(asked, count, own, &mut loads);
-    let answer = bounds::window_of(&loads[..n], blocking);
-    bounds::value_of(answer) as u32
+    let loads = cores::own_first(asked, own);
+    let rows = Loads {
+        rows: loads.as_slice(),
+    };
+    rows.window(cores::blocking_of(asked, own)).found
 }
 
-// The window of each row, 0 for none, to the front of `out`; the id of the highest row without one, 0 where all have one.
-fn windows(c: Core, out: &mut [u32]) -> u32
-    requires { IsCore c × (64 ≤ length out.old) }
-    ensures { Windows (tasks_in c) out.old result out.new }
+// The window of each row, or 11 with the highest row without one.
+fn windows(c: &Core) -> Result<ArrayVec<u64, 64>, Verdict>
+    requires { IsCore c.now }
+    ensures { WindowsOf (tasks_in c.now) result }
 {
-    let own = c.own;
-    let n = own.count;
-    let asked = c.asked;
-    let mut top = Top { id: 0, priority: 0 };
-    let mut i = 0;
-    while i < n {
-        let length = row_window(asked, n, i);
-        out[i] = length;
-        if length == 0 {
-            let row = own.rows[i];
-            top = higher_of(top, row);
+    let mut lengths = ArrayVec::new();
+    let mut top = None;
+    for (i, row) in c.own.used_rows().iter().enumerate() {
+        match row_window(c.asked.as_slice(), i) {
+            Some(length) => lengths.push(length),
+            None => top = higher_of(top, row),
         }
-        i += 1;
     }
-    top.id
+    match top {
+        Some(row) => Err(Verdict::NoWindow(row.id as usize)),
+        None => Ok(lengths),
+    }
 }
 
 // The bounds of row `own`, whose window and times are these.
-fn bounds_of_row(
-    asked: [Asked; 64],
-    count: usize,
-    own: usize,
-    window: u32,
-    times: &[u32],
-    room: &mut [u32],
-)
-    requires { Bounding asked count own window times.now × (length room.old ≡ length times.now) }
-    ensures { room.new ≡ bounds_on (take count asked) own window times.now }
+fn bounds_of_row(asked: &[Asked], own: usize, window: u64, times: &[u32], room: &mut [u32])
+    requires bounding { Bounding asked.now own window times.now }
+    requires room_len { length room.old ≡ length times.now }
+    ensures { room.new ≡ bounds_on asked.now own window times.now }
 {
-    let blocking = cores::blocking_of(asked, count, own);
-    let mut loads = [0u32; 128];
-    let n = cores::own_first(asked, count, own, &mut loads);
-    let mut preemptive = [0u32; 128];
-    let m = cores::preemptive_loads(asked, count, &mut preemptive);
-    let row = asked[own];
-    let cooperative = row.kind == 1;
+    let loads = cores::own_first(asked, own);
+    let preemptive = cores::preemptive_loads(asked);
     let brings = Own {
-        cooperative,
-        blocking,
-        window: window as u64,
+        cooperative: asked[own].cooperative,
+        blocking: cores::blocking_of(asked, own),
+        window,
     };
-    bounds::row_bounds(&loads[..n], &preemptive[..m], brings, times, room)
+    let rows = Loads {
+        rows: loads.as_slice(),
+    };
+    let preemptive = Loads {
+        rows: preemptive.as_slice(),
+    };
+    bounds::row_bounds(rows, preemptive, brings, times, room);
 }
 
-// The bounds of each row's parts to the front of the room, row by row; the id of the highest row that is late, 0 for none.
-fn core_bounds(c: Core, windows: &[u32], room: &mut [u32]) -> u32
-    requires { ToBound c windows.now (length room.old) }
-    ensures { Bounded (tasks_in c) room.old result room.new }
+// The bounds of each row's parts to the front of the room, row by row; 12 with the highest row that is late.
+fn core_bounds(c: &Core, windows: &[u64], room: &mut [u32]) -> Result<(), Verdict>
+    requires { ToBound c.now windows.now (length room.old) }
+    ensures { BoundedBy (tasks_in c.now) room.old result room.new }
 {
-    let own = c.own;
-    let n = own.count;
-    let times = own.times;
-    let asked = c.asked;
-    let mut top = Top { id: 0, priority: 0 };
-    let mut a: usize = 0;
-    let mut i = 0;
-    while i < n {
-        let row = own.rows[i];
-        let e = a + row.parts as usize;
-        bounds_of_row(asked, n, i, windows[i], &times[a..e], &mut room[a..e]);
+    let mut top = None;
+    let mut a = 0;
+    let mut rest = &c.own.times[..];
+    for (i, row) in c.own.used_rows().iter().enumerate() {
+        let (times, behind) = rest.split_at(row.parts as usize);
+        let e = a + times.len();
+        bounds_of_row(c.asked.as_slice(), i, windows[i], times, &mut room[a..e]);
         if row.deadline < room[e - 1] {
             top = higher_of(top, row);
         }
+        rest = behind;
         a = e;
-        i += 1;
     }
-    top.id
+    match top {
+        Some(row) => Err(Verdict::Missed(row.id as usize)),
+        None => Ok(()),
+    }
+}
+
+// The window of each row, where so much room is enough: 10, then 11.
+fn windows_for(c: &Core, room: usize) -> Result<ArrayVec<u64, 64>, Verdict>
+    requires { IsCore c.now }
+    ensures { WindowsFor (tasks_in c.now) room result }
+{
+    if room < c.parts {
+        return Err(Verdict::NoRoom(c.parts));
+    }
+    windows(c)
 }
 
 // The rows of a core: 10, 11, 12.
-pub fn analyse_core(c: Core, room: &mut [u32]) -> Analysed
-    requires { IsCore c }
-    ensures { Gives (room_said (tasks_in c) (length room.old)) (tasks_in c) room.old result room.new }
+pub fn analyse_core(c: &Core, room: &mut [u32]) -> Analysed
+    requires { IsCore c.now }
+    ensures { Gives (room_said (tasks_in c.now) (length room.old)) (tasks_in c.now) room.old result room.new }
 {
-    let needed = c.parts;
-    if room.len() < needed {
-        return refused(Verdict::NoRoom(needed));
-    }
-    let mut lengths = [0u32; 64];
-    let none = windows(c, &mut lengths);
-    if none != 0 {
-        return refused(Verdict::NoWindow(none as usize));
-    }
-    let late = core_bounds(c, &lengths, room);
-    if late != 0 {
-        return Analysed {
-            verdict: Verdict::Missed(late as usize),
-            count: needed,
-        };
-    }
-    Analysed {
-        verdict: Verdict::Good,
-        count: needed,
+    match windows_for(c, room.len()) {
+        Ok(windows) => Analysed {
+            verdict: Verdict::from(core_bounds(c, windows.as_slice(), room)),
+            count: c.parts,
+        },
+        Err(refusal) => refused(refusal),
     }
 }
 
-// The answer for one core of a good table: 9, then 10, 11, 12.
-fn analyse_good(t: Table, core: u32, room: &mut [u32]) -> Analysed
-    requires { code_of (fault_of t) ≡ 0 }
-    ensures { AnalysesGood t core room.old result room.new }
+// The answer for one core of a table that nothing stands against: 9, then 10, 11, 12.
+pub fn analyse_good(t: &GoodTable, core: u32, room: &mut [u32]) -> Analysed
+    ensures { AnalysesGood t.now.table core room.old result room.new }
 {
     if 3 < core {
         return refused(Verdict::NoSuchCore(core as usize));
     }
-    analyse_core(cores::core_of(t, core), room)
+    analyse_core(&cores::core_of(t, core), room)
 }
 
 // The answer for one core of a table in memory: its own faults first.
-pub fn analyse_table(t: Table, core: u32, room: &mut [u32]) -> Analysed
-    ensures { AnalysesTable t core room.old result room.new }
+pub fn analyse_table(t: &Table, core: u32, room: &mut [u32]) -> Analysed
+    ensures { AnalysesTable t.now core room.old result room.new }
 {
-    let fault = table::fault_of(t);
-    if table::code_of(fault) != 0 {
-        return refused(fault);
+    match GoodTable::try_from(*t) {
+        Ok(good) => analyse_good(&good, core, room),
+        Err(fault) => refused(fault),
     }
-    analyse_good(t, core, room)
 }
 
 // The answer for one core of a table file: the reading codes first.
 pub fn analyse(bytes: &[u8], core: u32, room: &mut [u32]) -> Analysed
     ensures { Analyses bytes.now core room.old result room.new }
 {
-    let file = files::read(bytes);
-    let verdict = file.verdict;
-    if table::code_of(verdict) != 0 {
-        return refused(verdict);
+    match files::load(bytes) {
+        Ok(good) => analyse_good(&good, core, room),
+        Err(refusal) => refused(refusal),
     }
-    let table = file.table;
-    analyse_good(table, core, room)
 }

@@ -3,8 +3,8 @@ use Prim.Native.Nat.{ℕ, ◌≤◌, ◌<◌, ◌^◌}
 use mathlib.Core.Path.{◌≡◌, sym, ap, fun_ext, ◌∙◌}
 use mathlib.Core.List.{List, ◌∷◌}
 use native.Mathlib.Omega.{arith}
-use lib.ListN.{length, get_or}
-use Rattle.lists.specs.Lists.{◌∈◌, each, total}
+use lib.ListN.{length}
+use Rattle.lists.specs.Lists.{◌∈◌, total}
 use Rattle.model.specs.Task.{Task, cost}
 use Rattle.model.specs.Rows.{GoodCore}
 use Rattle.model.specs.Least.{least, rounds}
@@ -13,7 +13,8 @@ use Rattle.model.proofs.Rows.{period_pos}
 use Rattle.model.proofs.Parts.{cost_pos}
 use Rattle.model.proofs.Blocking.{blocking-most}
 use Rattle.model.proofs.Demand.{demand_is, window-from-cost}
-use Rattle.bounds.specs.Loads.{loads, Summable, side, searched, window_answer}
+use Rattle.bounds.specs.declared.Load.{Load}
+use Rattle.bounds.specs.Loads.{loads, Summable, first_cost, side, searched, window_answer}
 use Rattle.bounds.proofs.Sides.{work-loads, summable_own}
 
 module _ (rows : List Task) (core : GoodCore rows) (t : Task) (m : t ∈ rows) where
@@ -35,14 +36,12 @@ module _ (rows : List Task) (core : GoodCore rows) (t : Task) (m : t ∈ rows) w
       (fun_ext side-demand)
       ∙ ap (λ f. record { found = f; rounds = rounds (demand rows t) 16777215 16777216 (cost t) }) (sym from-cost)
 
-  module _ (own_first : List ℕ) (blocked : ℕ) (loaded : own_first ≡ loads (t ∷ higher rows t)) (blocks : blocked ≡ blocking rows t)
+  module _ (own_first : List Load) (blocked : ℕ) (loaded : own_first ≡ loads (t ∷ higher rows t)) (blocks : blocked ≡ blocking rows t)
     where
-      -- what `window_of` asks for
+      -- what `window` asks for
       pub window-asked : Summable own_first × ((0 < length own_first) × (blocked ≤ 2 ^ 62))
-      unfolding each
       window-asked = rw (loaded, blocks) (summable_own rows core t m, (omega arith, omega (arith, blocking_small)))
 
       -- and what it answers
-      pub window-answered : searched own_first blocked (get_or own_first 1 0) ≡ window_answer rows t
-      unfolding each
+      pub window-answered : searched own_first blocked (first_cost own_first) ≡ window_answer rows t
       window-answered = rw (loaded, blocks) window_is

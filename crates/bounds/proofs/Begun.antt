@@ -10,9 +10,9 @@ use borrow.Author.Tests.{lt-ltb}
 use Rattle.lists.specs.Lists.{keep, total}
 use Rattle.lists.proofs.Keep.{kept}
 use Rattle.lists.proofs.Totals.{total-add, total_same, total_wider}
-use Rattle.model.specs.declared.Found.TheVariants.{At}
+use Rattle.std.specs.Prelude.{Some, unwrap_or}
 use Rattle.model.specs.Task.{Task, cost, part, parts_before}
-use Rattle.model.specs.Least.{least, value, IsLeast}
+use Rattle.model.specs.Least.{least, IsLeast}
 use Rattle.model.proofs.Ranges.{CooperativeRange}
 use Rattle.model.specs.Bounds.{limit, preemptive, before, through, higher, blocking, start, end_from}
 use Rattle.model.proofs.Least.{least_at, least_same}
@@ -21,19 +21,20 @@ use Rattle.model.proofs.Rounding.{before-suc, through_before}
 use Rattle.model.proofs.Rows.{period_pos, preemptive-higher}
 use Rattle.model.proofs.Demand.{work, work_through, work_mono, work-suc}
 use Rattle.model.proofs.Exists.{higher_periods, cooperative_range, finish-cooperative}
+use Rattle.bounds.specs.declared.Load.{Load}
 use Rattle.bounds.specs.Loads.{work_at, side, searched, solution}
 use Rattle.bounds.specs.Promises.{Warm, AtPart, end_from_start, end_of_part}
 use Rattle.bounds.proofs.Walk.{IsEnd, preemptive-work, time_pos, window_small, solved, reached}
 
 -- what the code works out from the tick after the start is in range, and the search for the end begins where it may
-pub record StartRange (preempts : List ℕ) (time after : ℕ) : Type 0 where
+pub record StartRange (preempts : List Load) (time after : ℕ) : Type 0 where
   pub some : 1 ≤ after
   pub small : after ≤ 16777215
   pub behind : work_at preempts after ≤ after - 1
   pub early : after - 1 + time ≤ 16777215
   pub begins : after - 1 + time ≤ side preempts (after - 1 + time - work_at preempts after) (after - 1 + time)
 
-module _ {highers preempts : List ℕ} {base from time : ℕ} (a : AtPart highers preempts true base from time) where
+module _ {highers preempts : List Load} {base from time : ℕ} (a : AtPart highers preempts true base from time) where
   open a use {seen, j, r}
   open seen use {rows, t, L, core, row, windowed}
 
@@ -119,8 +120,8 @@ module _ {highers preempts : List ℕ} {base from time : ℕ} (a : AtPart higher
 
   -- the second search answers with the end
   ended : end_of_part highers preempts true base from time ≡ record { end = f; next = s + time }
-  unfolding end_of_part end_from_start end_from searched value limit
-  ended = rw (started, one) (ap (λ (e : ℕ). record { end = e; next = s + time }) (ap value found))
+  unfolding end_of_part end_from_start end_from searched limit
+  ended = rw (started, one) (ap (λ o. record { end = unwrap_or o 0; next = s + time }) found)
     where
       -- the two right sides are the same
       ends : (z : ℕ) → s + part t r ≤ z
@@ -128,7 +129,7 @@ module _ {highers preempts : List ℕ} {base from time : ℕ} (a : AtPart higher
           ≡ s + part t r + total (λ u. (before u z - through u s) * cost u) (keep preemptive rows)
       ends z h = omega (arith, a.timed, behind-start, split z (omega (arith, a.timed, time_pos a)))
 
-      found : least (side preempts (s + time - work_at preempts (suc s))) (s + time) limit ≡ At f
+      found : least (side preempts (s + time - work_at preempts (suc s))) (s + time) limit ≡ Some f
       found =
           ap (λ (n : ℕ). least (side preempts (s + time - work_at preempts (suc s))) (s + n) limit) a.timed
           ∙ least_same _ _ (s + part t r) limit ends ∙ range.ends

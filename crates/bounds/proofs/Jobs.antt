@@ -7,24 +7,25 @@ use native.Mathlib.Omega.{arith}
 use lib.ListN.{length, get_or, take}
 use Rattle.lists.specs.Lists.{sum}
 use Rattle.lists.proofs.Sums.{sum-suc}
-use Rattle.model.specs.declared.Found.TheVariants.{At}
+use Rattle.std.specs.Prelude.{Some}
 use Rattle.model.specs.Task.{cost, parts, part, parts_before}
 use Rattle.model.specs.Least.{value}
 use Rattle.model.specs.Bounds.{finish, response}
 use Rattle.model.proofs.Parts.{parts-zero, parts_all}
 use Rattle.model.proofs.Exists.{window-most, finish_range}
+use Rattle.bounds.specs.declared.Load.{Load}
 use Rattle.bounds.specs.declared.Job.{Job}
 use Rattle.bounds.specs.Promises.{Warm, AtJob, AtPart, end_of_part, base_at, from_at, part_end_at, job_next}
 use Rattle.bounds.proofs.Walk.{IsEnd, preemptive-found}
 use Rattle.bounds.proofs.Begun.{cooperative-found}
 
 -- a part of either kind ends where its searches say
-part_ends : {highers preempts : List ℕ} {coop : Bool} {base from time : ℕ} (a : AtPart highers preempts coop base from time)
+part_ends : {highers preempts : List Load} {coop : Bool} {base from time : ℕ} (a : AtPart highers preempts coop base from time)
     → IsEnd a (end_of_part highers preempts coop base from time)
 part_ends {coop = true} a = cooperative-found a
 part_ends {coop = false} a = preemptive-found a
 
-module _ {highers preempts : List ℕ} {coop : Bool} {job : Job} {times : List ℕ} (a : AtJob highers preempts coop job times) where
+module _ {highers preempts : List Load} {coop : Bool} {job : Job} {times : List ℕ} (a : AtJob highers preempts coop job times) where
   open a use {seen, j}
   open seen use {rows, t, L, core, row, windowed}
 
@@ -80,14 +81,15 @@ module _ {highers preempts : List ℕ} {coop : Bool} {job : Job} {times : List �
     at_part = standing r h (part_warm r (omega arith))
 
     -- the part's end
-    part_ended : finish rows t r j ≡ At (part_end_at highers preempts coop job times r)
+    part_ended : finish rows t r j ≡ Some (part_end_at highers preempts coop job times r)
     part_ended = (part_ends (standing r h (part_warm r (omega arith)))).ends
 
     -- lies after the release and within the limit
-    pub end_range : (job.release ≤ part_end_at highers preempts coop job times r) × (part_end_at highers preempts coop job times r ≤ 16777215)
+    pub end_range : (job.release ≤ part_end_at highers preempts coop job times r)
+        × (part_end_at highers preempts coop job times r ≤ 16777215)
     end_range =
         let range = finish_range rows core t row L windowed r j (omega (arith, count)) a.inside in
-        let found : At (part_end_at highers preempts coop job times r) ≡ At range.f = sym part_ended ∙ range.ends in
+        let found : Some (part_end_at highers preempts coop job times r) ≡ Some range.f = sym part_ended ∙ range.ends in
         let same : part_end_at highers preempts coop job times r ≡ range.f = cc in (
           omega (arith, a.released, range.late),
           omega (arith, range.within, window-most rows core t row L windowed),

@@ -5,9 +5,9 @@ use mathlib.Core.Bool.{Bool, false}
 use mathlib.Core.List.{List}
 use native.Mathlib.Omega.{arith}
 use Rattle.lists.specs.Lists.{keep}
-use Rattle.model.specs.declared.Found.TheVariants.{At}
+use Rattle.std.specs.Prelude.{Some, unwrap_or}
 use Rattle.model.specs.Task.{cost, parts_before}
-use Rattle.model.specs.Least.{value, IsLeast}
+use Rattle.model.specs.Least.{IsLeast}
 use Rattle.model.proofs.Ranges.{PreemptiveRange}
 use Rattle.model.specs.Bounds.{limit, preemptive, higher, preemptive_end, finish}
 use Rattle.model.proofs.Least.{least_at, least_same}
@@ -17,35 +17,27 @@ use Rattle.model.proofs.Blocking.{no_blocking}
 use Rattle.model.proofs.Demand.{work, work_mono}
 use Rattle.model.proofs.Exists.{window-most, inside, preemptive_range, finish-preemptive}
 use Rattle.bounds.specs.declared.PartEnd.{PartEnd}
-use Rattle.bounds.specs.Loads.{Summable, work_at, side, searched, solution}
+use Rattle.bounds.specs.declared.Load.{Load}
+use Rattle.bounds.specs.Loads.{work_at, side, searched, solution}
 use Rattle.bounds.specs.Promises.{Warm, AtPart, end_of_part}
-use Rattle.bounds.proofs.Sides.{work-loads, summable_keep}
+use Rattle.bounds.proofs.Sides.{work-loads}
 
 -- a part's end, and where the next search may begin
-pub record IsEnd {hs ps : List ℕ} {coop : Bool} {base from time : ℕ} (a : AtPart hs ps coop base from time) (p : PartEnd) : Type 0 where
-  pub ends : finish a.seen.rows a.seen.t a.r a.j ≡ At p.end
+pub record IsEnd {hs ps : List Load} {coop : Bool} {base from time : ℕ} (a : AtPart hs ps coop base from time) (p : PartEnd) : Type 0 where
+  pub ends : finish a.seen.rows a.seen.t a.r a.j ≡ Some p.end
   pub warm : Warm a.seen.rows a.seen.t (base + time) p.next
 
-module _ {highers preempts : List ℕ} {coop : Bool} {base from time : ℕ} (a : AtPart highers preempts coop base from time) where
+module _ {highers preempts : List Load} {coop : Bool} {base from time : ℕ} (a : AtPart highers preempts coop base from time) where
   open a use {seen, j, r}
   open seen use {rows, t, L, core, row, windowed}
 
-  -- the slices can be summed
-  pub highers_summed : Summable highers
-  unfolding higher
-  highers_summed = rw seen.higher_is (summable_keep rows core _)
-
-  -- those of the preemptive rows too
-  pub preemptives_summed : Summable preempts
-  preemptives_summed = rw seen.preemptive_is (summable_keep rows core preemptive)
-
-  -- their work is that of the rows
+  -- the loads' work is that of the higher rows
   higher-work : (y : ℕ) → work_at highers y ≡ work (higher rows t) y
-  higher-work y = ap (λ (l : List ℕ). work_at l y) seen.higher_is ∙ work-loads (higher rows t) y
+  higher-work y = ap (λ (l : List Load). work_at l y) seen.higher_is ∙ work-loads (higher rows t) y
 
-  -- theirs too
+  -- and of the preemptive rows
   pub preemptive-work : (y : ℕ) → work_at preempts y ≡ work (keep preemptive rows) y
-  preemptive-work y = ap (λ (l : List ℕ). work_at l y) seen.preemptive_is ∙ work-loads (keep preemptive rows) y
+  preemptive-work y = ap (λ (l : List Load). work_at l y) seen.preemptive_is ∙ work-loads (keep preemptive rows) y
 
   -- the part takes time
   pub time_pos : 0 < time
@@ -78,9 +70,9 @@ module _ {highers preempts : List ℕ} {coop : Bool} {base from time : ℕ} (a :
 
   -- a least solution over the higher rows is what the search over the slice answers
   pub solved : (c y : ℕ) → IsLeast (λ z. base + c + work (higher rows t) z) 0 limit y → solution highers (base + c) (from + c) ≡ y
-  unfolding limit searched value
+  unfolding limit searched
   solved c y l =
-      ap value
+      ap (λ o. unwrap_or o 0)
       (least_same _ _ (from + c) limit (λ z h. ap (λ (n : ℕ). base + c + n) (higher-work z))
       ∙ under-least _ limit (from + c) y (shifted c) l)
 
@@ -88,7 +80,7 @@ module _ {highers preempts : List ℕ} {coop : Bool} {base from time : ℕ} (a :
   pub reached : (c y : ℕ) → IsLeast (λ z. base + c + work (higher rows t) z) 0 limit y → Warm rows t (base + c) y
   reached c y l = least_under _ 0 (λ x z h. omega (arith, work_mono (higher rows t) x z h)) (omega arith) limit y l
 
-module _ {highers preempts : List ℕ} {base from time : ℕ} (a : AtPart highers preempts false base from time) where
+module _ {highers preempts : List Load} {base from time : ℕ} (a : AtPart highers preempts false base from time) where
   open a use {seen, j, r}
   open seen use {rows, t, L, core, row, windowed}
 

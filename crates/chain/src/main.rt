@@ -1,6 +1,7 @@
 // The chain program: a table file and a list of steps in, the delay along the chain out.
 #![tactic(auto)]
 
+ghost use Rattle.std.specs.Prelude.{IfSome};
 ghost use Rattle.io.specs.Counts.{IsPrefixLen};
 
 use chains::{About, Delayed};
@@ -10,14 +11,7 @@ use std::fs::File;
 use std::io::Read;
 use std::os::fd::AsRawFd;
 use std::rt::{Env, Files};
-use tell::{STDERR_FILENO, STDOUT_FILENO};
-
-// How many bytes of a file were read, and whether it could be read at all.
-#[derive(Drop)]
-struct Front {
-    read: bool,
-    count: usize,
-}
+use tell::STDERR_FILENO;
 
 // Says that a file cannot be read.
 fn tell_unreadable(name: &[u8]) {
@@ -35,50 +29,34 @@ fn open_read<R: Files>(rt: &R, name: &[u8]) -> Option<R::File> {
     Some(file)
 }
 
-// Reads the front of the file that an argument names, as much of it as there is room for.
-fn read_front(rt: &(impl Env + Files<File = File>), argument: usize, bytes: &mut [u8]) -> Front
-    ensures { IsPrefixLen result.count bytes.new }
+// Reads the front of the file that an argument names, as much of it as there is room for; how many bytes, or None where it cannot be
+// read.
+fn read_front(
+    rt: &(impl Env + Files<File = File>),
+    argument: usize,
+    bytes: &mut [u8],
+) -> Option<usize>
+    ensures { IfSome result (λ count. IsPrefixLen count bytes.new) }
 {
     let mut name = io::buffer();
     let n = rt.arg(argument, &mut name).unwrap_or(0);
-    match open_read(rt, &name[..n]) {
-        Some(file) => {
-            let count = io::read_full(file.as_raw_fd(), bytes);
-            Front { read: true, count }
-        }
-        None => {
-            tell_unreadable(&name[..n]);
-            Front {
-                read: false,
-                count: 0,
-            }
-        }
-    }
+    let Some(file) = open_read(rt, &name[..n]) else {
+        tell_unreadable(&name[..n]);
+        return None;
+    };
+    Some(io::read_full(file.as_raw_fd(), bytes))
 }
 
-// Prints the delay, or what is refused and why.
-fn print(answer: Delayed) {
-    let about = answer.about;
+// Prints the delay, or what is refused and why. A failed write is left.
+fn print(rt: &impl Print, answer: Delayed) {
     let verdict = answer.verdict;
-    match about {
-        About::Chain => {
-            io::write_all(STDOUT_FILENO, b"delay ");
-            io::print_decimal(STDOUT_FILENO, answer.delay as u64);
-            io::write_all(STDOUT_FILENO, b"\n");
-            return;
-        }
-        About::File => {
-            io::write_all(STDOUT_FILENO, b"file");
-        }
-        About::List => {
-            io::write_all(STDOUT_FILENO, b"list");
-        }
-        About::Core(core) => {
-            io::write_all(STDOUT_FILENO, b"core ");
-            io::print_decimal(STDOUT_FILENO, core as u64);
-        }
+    match answer.about {
+        About::Chain => println!(rt; "delay {}", answer.delay),
+        About::File => println!(rt; "file {verdict}"),
+        About::List => println!(rt; "list {verdict}"),
+        About::Core(core) => println!(rt; "core {core} {verdict}"),
     }
-    tell::verdict(STDOUT_FILENO, verdict);
+    .ok();
 }
 
 // Whether the program was started with an argument of that number; its own name is number 0.
@@ -90,23 +68,21 @@ fn has_argument(rt: &impl Env, argument: usize) -> bool {
     }
 }
 
-// Reads both files: of a table 5,124 bytes are enough to judge it, of a list 132.
+// The delay along the chain: of a table 5,124 bytes are enough to judge it, of a list 132. None where one of them cannot be read.
+fn delay_of(rt: &(impl Env + Files<File = File>)) -> Option<Delayed> {
+    let mut table = [0u8; 5124];
+    let n = read_front(rt, 1, &mut table)?;
+    let mut list = [0u8; 132];
+    let m = read_front(rt, 2, &mut list)?;
+    Some(chains::delay(&table[..n], &list[..m]))
+}
+
 fn main(rt: HostRuntime) {
     if !has_argument(&rt, 2) || has_argument(&rt, 3) {
-        io::write_all(STDERR_FILENO, b"chain: name a table file and a list file\n");
+        eprintln!(rt; "chain: name a table file and a list file").ok();
         return;
     }
-    let mut table = [0u8; 5124];
-    let table_front = read_front(&rt, 1, &mut table);
-    if !table_front.read {
-        return;
+    if let Some(answer) = delay_of(&rt) {
+        print(&rt, answer);
     }
-    let mut list = [0u8; 132];
-    let list_front = read_front(&rt, 2, &mut list);
-    if !list_front.read {
-        return;
-    }
-    let n = table_front.count;
-    let m = list_front.count;
-    print(chains::delay(&table[..n], &list[..m]));
 }

@@ -2,37 +2,52 @@
 use Prim.Native.Nat.{ℕ}
 use mathlib.Core.Path.{◌≡◌, sym, ap, ◌∙◌}
 use mathlib.Core.List.{List, []}
-use Rattle.table.specs.Verdicts.{code_of}
+use Rattle.std.specs.Prelude.{Ok, Err}
+use Rattle.arrayvec.specs.ArrayVec.{ArrayVec}
+use Rattle.model.specs.Task.{Task}
+use Rattle.table.specs.declared.GoodTable.{GoodTable}
+use Rattle.table.specs.declared.Verdict.{Verdict}
 use Rattle.table.specs.Memory.{tasks_of}
-use Rattle.files.specs.declared.Loaded.{Loaded}
-use Rattle.files.specs.Reading.{read_answer}
-use Rattle.files.proofs.Stops.{read_stopped, read_went}
+use Rattle.table.proofs.Stored.{tasks-stored}
+use Rattle.fields.specs.Stepping.{Step, stop, go}
+use Rattle.files.specs.Reading.{decode}
+use Rattle.files.specs.Promises.{Loads}
 use Rattle.chains.specs.declared.About.TheVariants as A
-use Rattle.chains.specs.declared.Listed.{Listed}
+use Rattle.chains.specs.declared.ChainStep.{ChainStep}
 use Rattle.chains.specs.Lists.{list_numbers}
 use Rattle.chains.specs.Chains.{links_at, chain_in, no_delay, chain_said, answer_for, delay_answer}
-use Rattle.chains.specs.Promises.{as_listed, steps_in}
+use Rattle.chains.specs.Promises.{as_steps}
 use Rattle.chains.proofs.Listing.{list-refused, list-chain}
 
-module _ (s : List ℕ) (f : Loaded) (read : f ≡ read_answer s) where
+module _ (s list : List ℕ) where
   -- a refused table is what is spoken of
-  pub file-refused : (code_of f.verdict ≡ 0 → ⊥) → (list : List ℕ) → no_delay A.File f.verdict ≡ delay_answer s list
+  pub file-refused : (v : Verdict) → Loads (decode s) (Err v) → no_delay A.File v ≡ delay_answer s list
   unfolding delay_answer answer_for
-  file-refused bad list = rw (read_stopped s f read bad)
+  file-refused v = of (decode s)
+    where
+      of : (x : Step (List Task)) → Loads x (Err v) → no_delay A.File v ≡ answer_for x list
+      of (stop w) e = cc
+      of (go ts n) f = absurd (let e = f.1 in cc)
 
-  module _ (fine : code_of f.verdict ≡ 0) (list : List ℕ) where
+  module _ (t : GoodTable) (read : Loads (decode s) (Ok t)) where
     -- of a good one the chain decides
-    by_chain : delay_answer s list ≡ chain_said (tasks_of f.table) (chain_in (tasks_of f.table) list)
+    by_chain : delay_answer s list ≡ chain_said (tasks_of t.table) (chain_in (tasks_of t.table) list)
     unfolding delay_answer answer_for
-    by_chain = rw (read_went s f read fine).1
+    by_chain = of (decode s) read
+      where
+        of : (x : Step (List Task)) → Loads x (Ok t) → answer_for x list ≡ chain_said (tasks_of t.table) (chain_in (tasks_of t.table) list)
+        of (stop w) e = absurd cc
+        of (go ts n) f =
+            let same : t ≡ f.0 = (let e = f.1 in cc) in
+            let own : tasks_of t.table ≡ ts = ap (λ (u : GoodTable). tasks_of u.table) same ∙ ap tasks_of f.2 ∙ tasks-stored ts in
+            rw own
 
-    module _ (l : Listed) (listed : l ≡ as_listed (list_numbers list)) where
-      -- a refused list is what is spoken of
-      pub list_refuses : (code_of l.verdict ≡ 0 → ⊥) → no_delay A.List l.verdict ≡ delay_answer s list
-      unfolding chain_said
-      list_refuses bad = sym (by_chain ∙ rw (list-refused list l listed bad (tasks_of f.table)))
+    -- a refused list is what is spoken of
+    pub list_refuses : (v : Verdict) → Err v ≡ as_steps (list_numbers list) → no_delay A.List v ≡ delay_answer s list
+    unfolding chain_said
+    list_refuses v e = sym (by_chain ∙ rw (list-refused list v e (tasks_of t.table)))
 
-      -- else the chain of its steps
-      pub chain-answers : code_of l.verdict ≡ 0
-          → chain_said (tasks_of f.table) (links_at (tasks_of f.table) (steps_in l) [] 0) ≡ delay_answer s list
-      chain-answers good = sym (by_chain ∙ ap (chain_said (tasks_of f.table)) (list-chain list l listed good (tasks_of f.table)))
+    -- else the chain of its steps
+    pub chain-answers : (steps : ArrayVec ChainStep) → Ok steps ≡ as_steps (list_numbers list)
+        → chain_said (tasks_of t.table) (links_at (tasks_of t.table) steps.items [] 0) ≡ delay_answer s list
+    chain-answers steps e = sym (by_chain ∙ ap (chain_said (tasks_of t.table)) (list-chain list steps e (tasks_of t.table)))

@@ -1,15 +1,17 @@
 -- From what the code keeps of a chain's steps and of its cores' bounds: the sum that it makes is the delay. Assumes nothing.
-use Prim.Native.Nat.{ℕ, zero, suc, ◌+◌, ◌*◌, ◌≤◌, ◌<◌}
-use native.Mathlib.Nat.{add-zero, zero-add, add_assoc}
+use Prim.Native.Nat.{ℕ, zero, suc, ◌+◌, ◌≤◌, ◌<◌}
+use native.Mathlib.Nat.{add-zero, zero-add}
 use native.Mathlib.Omega.{arith}
-use borrow.Author.Tests.{eq-eqb, ne_eqb}
+use borrow.Author.Tests.{eq-eqb}
 use mathlib.Core.Path.{◌≡◌, refl, sym, ap, ◌∙◌}
-use mathlib.Core.Bool.{Bool, ◌&&◌}
+use mathlib.Core.Bool.{Bool}
 use mathlib.Core.List.Memᴰ
 use mathlib.Core.List.{List, [], ◌∷◌, map, head-eq_of_cons-eq}
 use lib.ListN.{length, get_or, take, drop, length-map, length-drop, drop_of_length-le}
 use lib.Seq.{ext_get_or}
-use lib.Dec.{eqb, ltb}
+use lib.Dec.{eqb}
+use Rattle.std.specs.Prelude.{Option, Some, None, slice_get}
+use Rattle.std.proofs.lemmas.Option.{slice_get_past, slice_get-get_or}
 use Rattle.lists.specs.Lists.{◌∈◌, Place, pick, keep, each, total, listed, up_to}
 use Rattle.lists.proofs.Tests.{by_test}
 use Rattle.lists.proofs.Drops.{place_drop}
@@ -27,7 +29,8 @@ use Rattle.analysis.specs.Analysis.{needed, core_bounds}
 use Rattle.analysis.proofs.BoundsPut.{bounds-length}
 use Rattle.chains.specs.declared.Spot.{Spot}
 use Rattle.chains.specs.Chains.{step_core}
-use Rattle.chains.specs.Promises.{start_of, IsSpot, no_spot, Spots, OnCores, cores_in, Filled, place_in, added_at, StepsInRange}
+use Rattle.chains.specs.Promises.{start_of, spot_of, IsSpot, no_spot, Spots, OnCores, cores_in, Filled}
+use Rattle.chains.specs.Promises.{place_in, bound_in, adding, added_at, StepsInRange}
 use Rattle.chains.proofs.Cores.{cores-length, core_at}
 use Rattle.chains.proofs.Adding.{sum_more}
 
@@ -62,10 +65,6 @@ module _ {tasks : List Task} {links : List Link} {spots : List Spot} (k : Spots 
     its_core_lem : (get_or spots i no_spot).core ≡ l.task.core
     its_core_lem = ap (λ (s : Spot). s.core) kept.is
 
-    -- its place in the rooms: its core's part, and there its place among the bounds
-    in_core : place_in (get_or spots i no_spot) ≡ l.task.core * 1024 + its_place
-    in_core = ap place_in kept.is ∙ add_assoc _ _ _
-
     -- its bound stands there
     its_bound : Place (core_bounds (on_core l.task.core tasks)) its_place (bound_of tasks l)
     unfolding bound_of
@@ -79,67 +78,63 @@ module _ {tasks : List Task} {links : List Link} {spots : List Spot} (k : Spots 
         omega (arith, place_below (each (row_bounds rows) rows) _ _ its_bound, bounds-length rows rows)
 
   -- the cores of its steps are those of the chain, in order
-  pub cores_same : length spots ≡ 33 → cores_in (length links) spots ≡ map step_core links
-  cores_same long = ext_get_or 0 _ _ (all ∙ sym (length-map links step_core)) (λ i h. by i (rw all at h))
+  pub cores_same : cores_in spots ≡ map step_core links
+  cores_same = ext_get_or 0 _ _ (all ∙ sym (length-map links step_core)) (λ i h. by i (rw all at h))
     where
-      room : length links ≤ length spots
-      room = omega (arith, k.few)
+      all : length (cores_in spots) ≡ length links
+      all = cores-length spots ∙ k.count
 
-      all : length (cores_in (length links) spots) ≡ length links
-      all = cores-length (length links) spots room
-
-      by : (i : ℕ) → i < length links → get_or (cores_in (length links) spots) i 0 ≡ get_or (map step_core links) i 0
+      by : (i : ℕ) → i < length links → get_or (cores_in spots) i 0 ≡ get_or (map step_core links) i 0
       by i h =
           let w = place_some links i h in
-          core_at (length links) spots room i h ∙ its_core_lem i w.0 w.1 ∙ sym (place_get step_core 0 links i w.0 w.1)
+          core_at spots i ∙ its_core_lem i w.0 w.1 ∙ sym (place_get step_core 0 links i w.0 w.1)
 
   -- at most 3
-  pub on_cores : OnCores (length links) spots
-  on_cores = record { few = k.few; core = λ i h. by i (place_some links i h) }
+  pub on_cores : OnCores spots
+  on_cores = record { few = omega (arith, k.few, k.count); core = λ i h. by i (place_some links i (rw k.count at h)) }
     where
       by : (i : ℕ) → (l : Link) × Place links i l → (get_or spots i no_spot).core ≤ 3
       by i w = omega (arith, its_core_lem i w.0 w.1, (its_task i w.0 w.1).core.most)
 
   -- and with the bounds of every core of the chain
-  module _ {rooms : List ℕ} (long : length rooms ≡ 4096) (few : (c : ℕ) → needed (on_core c tasks) ≤ 1024)
+  module _ {rooms : List (List ℕ)} (few : (c : ℕ) → needed (on_core c tasks) ≤ 1024)
       (filled : (c : ℕ) → c ∈ map step_core links → Filled tasks rooms c) where
     -- the bound of step i is found in the rooms
-    in_rooms : (i : ℕ) (l : Link) → Place links i l → get_or rooms (place_in (get_or spots i no_spot)) 0 ≡ bound_of tasks l
+    in_rooms : (i : ℕ) (l : Link) → Place links i l → bound_in rooms (get_or spots i no_spot) ≡ bound_of tasks l
     in_rooms i l here =
         let core = l.task.core in
         let on = filled core (Memᴰ.map step_core (place_in_lem links i l here)) in
-        ap (λ (n : ℕ). get_or rooms n 0) (in_core i l here)
+        ap (bound_in rooms) (kept i l here).is
         ∙ on.bound _ (its_inside i l here)
         ∙ place_at 0 (core_bounds (on_core core tasks)) _ _ (its_bound i l here)
 
     -- so the steps can be summed
-    pub summable : StepsInRange (length links) spots rooms
+    pub summable : StepsInRange spots rooms
     unfolding bound_of
     summable =
         record {
-          few = k.few;
-          inside = λ i h. by_inside i (place_some links i h);
-          period = λ i h. by_period i (place_some links i h);
-          bound = λ i h. by_bound i (place_some links i h);
+          few = omega (arith, k.few, k.count);
+          core = on_cores.core;
+          inside = λ i h. by_inside i (place_some links i (rw k.count at h));
+          period = λ i h. by_period i (place_some links i (rw k.count at h));
+          bound = λ i h. by_bound i (place_some links i (rw k.count at h));
         }
       where
-        by_inside : (i : ℕ) → (l : Link) × Place links i l → place_in (get_or spots i no_spot) < length rooms
-        by_inside i w =
-            let core = w.0.task.core in
-            omega (arith, in_core i w.0 w.1, its_inside i w.0 w.1, few core, (its_task i w.0 w.1).core.most)
+        by_inside : (i : ℕ) → (l : Link) × Place links i l → place_in (get_or spots i no_spot) < 1024
+        by_inside i w = omega (arith, ap place_in (kept i w.0 w.1).is, its_inside i w.0 w.1, few w.0.task.core)
 
         by_period : (i : ℕ) → (l : Link) × Place links i l → (get_or spots i no_spot).period ≤ 16777215
         by_period i w =
             omega (arith, ap (λ (s : Spot). s.period) (k.spot i w.0 w.1).is, (its_task i w.0 w.1).period.most)
 
-        by_bound : (i : ℕ) → (l : Link) × Place links i l → get_or rooms (place_in (get_or spots i no_spot)) 0 ≤ 16777215
+        by_bound : (i : ℕ) → (l : Link) × Place links i l → bound_in rooms (get_or spots i no_spot) ≤ 16777215
         by_bound i w =
             let l = w.0 in
             omega (arith, in_rooms i l w.1, bound-most (on_core l.task.core tasks) l.task l.part)
 
     -- what step i adds, by the next one
-    adds : (i : ℕ) (l : Link) → Place links i l → (next : Spot) → get_or spots (suc i) no_spot ≡ next
-        → added_at spots rooms i ≡ pick (eqb l.task.id next.task && ltb l.part next.part) 0 (l.task.period + bound_of tasks l)
+    adds : (i : ℕ) (l : Link) (here : Place links i l) (next : Option Spot) → slice_get spots (suc i) ≡ next
+        → added_at spots rooms i ≡ adding (spot_of tasks (kept i l here).at l) next (bound_of tasks l)
     adds i l here next e = rw (in_rooms i l here, (k.spot i l here).is, e)
 
     -- is its share of the delay
@@ -149,14 +144,16 @@ module _ {tasks : List Task} {links : List Link} {spots : List Spot} (k : Spots 
       where
         by : (ls : List Link) → drop (suc i) links ≡ ls → added_at spots rooms i + delay tasks ls ≡ delay tasks (l ∷ ls)
         by [] e =
-            let past : length links ≤ suc i = omega (arith, length-drop (suc i) links, ap length e) in
-            let other : l.task.id ≡ 0 → ⊥ = λ z. omega (arith, (its_task i l here).id.least) in
-            let mine = adds i l here no_spot (k.none (suc i) past) in
-            rw (mine, ne_eqb l.task.id 0 other, delay_none tasks, delay-last tasks l) (add-zero _)
+            let past : length spots ≤ suc i = omega (arith, length-drop (suc i) links, ap length e, k.count) in
+            let mine = adds i l here None (slice_get_past spots (suc i) past) in
+            rw (mine, delay_none tasks, delay-last tasks l) (add-zero _)
         by (m ∷ ls) e =
-            let w = place_some links (suc i) (omega (arith, length-drop (suc i) links, ap length e)) in
+            let more : suc i < length links = omega (arith, length-drop (suc i) links, ap length e) in
+            let w = place_some links (suc i) more in
             let same : m ≡ w.0 = head-eq_of_cons-eq (sym e ∙ place_drop links (suc i) w.0 w.1) in
-            let mine = adds i l here _ (k.spot (suc i) w.0 w.1).is in
+            let there = slice_get-get_or spots (suc i) no_spot (rw k.count more) in
+            let mine : added_at spots rooms i ≡ pick (same_job l w.0) 0 (l.task.period + bound_of tasks l)
+            = adds i l here _ (there ∙ ap Some (kept (suc i) w.0 w.1).is) in
             by_test (same_job l m)
             (λ t. rw (mine, ← same, t, delay_same tasks l m ls t) (zero-add _))
             (λ t. rw (mine, ← same, t, delay_anew tasks l m ls t))
@@ -169,8 +166,8 @@ module _ {tasks : List Task} {links : List Link} {spots : List Spot} (k : Spots 
         omega (arith, sums i (omega arith), shares i w.0 w.1, sum_more (added_at spots rooms) i)
 
     -- all of it
-    pub sum_is_delay : total (added_at spots rooms) (up_to (length links)) ≡ delay tasks links
+    pub sum_is_delay : total (added_at spots rooms) (up_to (length spots)) ≡ delay tasks links
     sum_is_delay =
         let all : length links ≤ length links = omega arith in
         let none : drop (length links) links ≡ [] = drop_of_length-le links all in
-        sym (add-zero _) ∙ rw (none, delay_none tasks) at (sums (length links) (omega arith))
+        rw k.count (sym (add-zero _) ∙ rw (none, delay_none tasks) at (sums (length links) (omega arith)))

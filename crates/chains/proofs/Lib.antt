@@ -2,7 +2,7 @@ pub mod Steps
 pub mod Stepping
 pub mod Listing
 pub mod Rows
-pub mod Indexing
+pub mod Starting
 pub mod Looking
 pub mod Finding
 pub mod Rooms

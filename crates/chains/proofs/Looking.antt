@@ -1,25 +1,36 @@
--- A step in its table: where the index has its task's id first, and what the definition says of it there. Assumes nothing.
+-- A step in its table: the first row that has its task's id, and what the definition says of it there. Assumes nothing.
 use Prim.Native.Nat.{ℕ, zero, suc, ◌-◌, ◌≤◌, ◌<◌}
 use native.Mathlib.Omega.{arith}
-use borrow.Author.Tests.{eq-eqb, ne_eqb, lt-ltb, le-ltb}
+use borrow.Author.Tests.{eq-eqb, eqb-true, ne_eqb, lt-ltb, le-ltb, ltb-false}
 use mathlib.Core.Path.{◌≡◌, refl, sym, ap, ◌∙◌}
+use mathlib.Core.Bool.{Bool, true, false}
 use mathlib.Core.List.{List, [], ◌∷◌}
-use lib.ListN.{length, get_or, take, drop, drop_of_length-le}
-use lib.Seq.{get_or-take, length-take-le}
+use lib.Dec.{eqb, ltb}
+use lib.ListN.{length, get_or, drop, drop_of_length-le}
+use Rattle.std.specs.Prelude.{Some, None}
+use Rattle.std.specs.List.{position, position_or_len}
+use Rattle.std.proofs.lemmas.List.Quantifiers.{position-Some}
+use Rattle.std.proofs.lemmas.List.Sums.{fails_before_first}
 use Rattle.lists.specs.Lists.{Place}
+use Rattle.lists.proofs.Tests.{by_test, never}
 use Rattle.lists.proofs.Drops.{place_drop}
-use Rattle.lists.proofs.Places.{place_below}
+use Rattle.lists.proofs.Places.{place_get}
 use Rattle.model.specs.Task.{Task, parts}
 use Rattle.model.specs.Chains.{Link}
 use Rattle.table.specs.declared.Row.{Row}
 use Rattle.table.specs.declared.Table.{Table}
 use Rattle.table.specs.declared.Verdict.TheVariants.{UnknownStep}
-use Rattle.table.specs.Memory.{tasks_of}
+use Rattle.table.specs.Memory.{zero_row, row_of, used_rows, tasks_of}
 use Rattle.fields.specs.Stepping.{stop, go}
-use Rattle.chains.specs.Lists.{ChainStep}
+use Rattle.chains.specs.declared.ChainStep.{ChainStep}
 use Rattle.chains.specs.Chains.{part_at, link_at}
-use Rattle.chains.specs.Promises.{FirstAt, Indexed, IsSpot}
-use Rattle.chains.proofs.Rows.{Sound, table_row, TaskAt, tasks-count, count_in, task-at}
+use Rattle.chains.proofs.Rows.{Sound}
+use Rattle.chains.specs.Promises.{StartsOf, IsSpot}
+use Rattle.chains.proofs.Rows.{TaskAt, its_rows, tasks-count, task-at}
+
+-- whether a row is that of a step's task
+abbrev pub named : ChainStep → Row → Bool
+named s r = eqb r.id s.task
 
 -- the tasks that have another id are passed over
 passed : (s : ChainStep) (n : ℕ) (tasks : List Task) (at : ℕ)
@@ -31,60 +42,53 @@ passed s n [] (suc at) none = refl
 passed s n (t ∷ ts) (suc at) none =
     rw (ne_eqb t.id s.task (none 0 t (omega arith) refl)) (passed s n ts at (λ j v h p. none (suc j) v (omega arith) p))
 
--- a table has an id for each row
-pub ids_taken : {t : Table} → Sound t → (ids : List ℕ) → length ids ≡ 64 → length (take t.count ids) ≡ t.count
-ids_taken {t} s ids long = length-take-le t.count ids (omega (arith, count_in s))
+module _ {t : Table} (sound : Sound t) {rows : List Row} (used : rows ≡ used_rows t) (s : ChainStep) where
+  -- what a row has is its task's
+  told : (j : ℕ) (v : Task) → Place (tasks_of t) j v → get_or rows j zero_row ≡ row_of v
+  told j v p = ap (λ (rs : List Row). get_or rs j zero_row) (its_rows sound used) ∙ place_get row_of zero_row (tasks_of t) j v p
 
--- the first place of a step's task in the index of a table
-pub record Looked (t : Table) (ids starts : List ℕ) (s : ChainStep) (at : ℕ) : Type 0 where
-  pub sound : Sound t
-  pub index : Indexed (tasks_of t) ids starts
-  pub long : length ids ≡ 64
-  pub first : FirstAt s.task (take t.count ids) at
+  -- where no row before has the id
+  from-here : (at n : ℕ) → ((k : ℕ) → k < at → named s (get_or rows k zero_row) ≡ false)
+      → link_at (tasks_of t) s n ≡ link_at (drop at (tasks_of t)) s n
+  from-here at n none =
+      passed s n (tasks_of t) at
+      (λ j v h p e. never (eq-eqb _ s.task (ap (λ (r : Row). r.id) (told j v p) ∙ e)) (none j h))
 
-module _ {t : Table} {ids starts : List ℕ} {s : ChainStep} {at : ℕ} (k : Looked t ids starts s at) where
-  -- what the index has at a task's place
-  told : (j : ℕ) (v : Task) → Place (tasks_of t) j v → get_or (take t.count ids) j 0 ≡ v.id
-  told j v p =
-      get_or-take t.count ids j 0 (omega (arith, place_below (tasks_of t) j v p, tasks-count k.sound)) ∙ k.index.id j v p
-
-  -- no task before has the id
-  from-here : (n : ℕ) → link_at (tasks_of t) s n ≡ link_at (drop at (tasks_of t)) s n
-  from-here n = passed s n (tasks_of t) at (λ j v h p e. k.first.none j h (told j v p ∙ e))
-
-  -- past the last row there is no task
-  pub no_task_lem : (n : ℕ) → at ≡ t.count → link_at (tasks_of t) s n ≡ stop (UnknownStep n)
+  -- no row has it
+  pub no_task_lem : (n : ℕ) → position (named s) rows ≡ None → link_at (tasks_of t) s n ≡ stop (UnknownStep n)
   unfolding link_at
-  no_task_lem n e = from-here n ∙ rw (drop_of_length-le (tasks_of t) {i = at} (omega (arith, tasks-count k.sound)))
+  no_task_lem n e =
+      let first : ℕ = position_or_len (named s) rows in
+      let past : length rows ≤ first = by_test (ltb first (length rows)) (λ b. absurd (let f = rw b at e in cc)) (ltb-false _ _) in
+      from-here first n (λ k h. fails_before_first (named s) rows k zero_row h)
+      ∙ rw (drop_of_length-le (tasks_of t) {i = first} (omega (arith, tasks-count sound used)))
 
-  -- else it is a row's
-  pub at_inside : (at ≡ t.count → ⊥) → at < t.count
-  at_inside other = omega (arith, other, k.first.within, ids_taken k.sound ids k.long)
+  module _ (at : ℕ) (found : position (named s) rows ≡ Some at) where
+    -- the first that has it
+    first : (at < length rows) × (named s (get_or rows at zero_row) ≡ true) × ((k : ℕ) → k < at → named s (get_or rows k zero_row) ≡ false)
+    first = position-Some (named s) rows at zero_row found
 
-  module _ (h : at < t.count) where
-    -- with its task
-    task : TaskAt t at
-    task = task-at k.sound at h
+    -- its task
+    task : TaskAt t rows at
+    task = task-at sound used at first.0
 
     -- which has the id
     id-here : s.task ≡ task.task.id
-    id-here =
-        let inside : at < length (take t.count ids) = rw (ids_taken k.sound ids k.long) h in
-        sym (k.first.here inside) ∙ told at task.task task.place
+    id-here = sym (eqb-true _ _ first.1) ∙ ap (λ (r : Row). r.id) task.row
 
     -- and is the step's
     part-here : (n : ℕ) → link_at (tasks_of t) s n ≡ part_at task.task s n
     unfolding link_at
     part-here n =
-        from-here n ∙ rw (place_drop (tasks_of t) at task.task task.place, eq-eqb task.task.id s.task (sym id-here))
+        from-here at n first.2 ∙ rw (place_drop (tasks_of t) at task.task task.place, eq-eqb task.task.id s.task (sym id-here))
 
     -- with as many parts as the row says
-    parts-here : (table_row t at).parts ≡ parts task.task
+    parts-here : (get_or rows at zero_row).parts ≡ parts task.task
     unfolding parts
     parts-here = ap (λ (r : Row). r.parts) task.row
 
     -- the part is unknown
-    pub no_part : (n : ℕ) → (table_row t at).parts < s.part → link_at (tasks_of t) s n ≡ stop (UnknownStep n)
+    pub no_part : (n : ℕ) → (get_or rows at zero_row).parts < s.part → link_at (tasks_of t) s n ≡ stop (UnknownStep n)
     unfolding part_at
     no_part n over = part-here n ∙ rw (lt-ltb (parts task.task) s.part (omega (arith, parts-here)))
 
@@ -92,33 +96,34 @@ module _ {t : Table} {ids starts : List ℕ} {s : ChainStep} {at : ℕ} (k : Loo
     pub link : Link
     link = record { task = task.task; part = s.part - 1 }
 
-    -- as the definition says
-    pub link_is : (n : ℕ) → s.part ≤ (table_row t at).parts → link_at (tasks_of t) s n ≡ go link (suc n)
-    unfolding part_at link
-    link_is n within = part-here n ∙ rw (le-ltb (parts task.task) s.part (omega (arith, parts-here)))
+    module _ (within : s.part ≤ (get_or rows at zero_row).parts) where
+      -- as the definition says
+      pub link_is : (n : ℕ) → link_at (tasks_of t) s n ≡ go link (suc n)
+      unfolding part_at link
+      link_is n = part-here n ∙ rw (le-ltb (parts task.task) s.part (omega (arith, parts-here)))
 
-    -- and is kept as the code has it
-    pub spot_is : s.part ≤ (table_row t at).parts → 1 ≤ s.part
-        → IsSpot (tasks_of t) link
-        (record {
-          task = s.task;
-          part = s.part - 1;
-          core = (table_row t at).core;
-          period = (table_row t at).period;
-          start = get_or starts at 0;
-        })
-    unfolding link
-    spot_is within some =
-        record {
-          at = at;
-          row = task.place;
-          inside = omega (arith, parts-here);
-          is =
-              λ j. record {
-                task = id-here j;
-                part = s.part - 1;
-                core = (task.row j).core;
-                period = (task.row j).period;
-                start = k.index.start at task.task task.place j;
-              };
-        }
+      -- and is kept as the code has it
+      pub spot_is : 1 ≤ s.part → (starts : List ℕ) → StartsOf (tasks_of t) starts
+          → IsSpot (tasks_of t) link
+          (record {
+            task = s.task;
+            part = s.part - 1;
+            core = (get_or rows at zero_row).core;
+            period = (get_or rows at zero_row).period;
+            start = get_or starts at 0;
+          })
+      unfolding link
+      spot_is some starts all =
+          record {
+            at = at;
+            row = task.place;
+            inside = omega (arith, parts-here);
+            is =
+                λ j. record {
+                  task = id-here j;
+                  part = s.part - 1;
+                  core = (task.row j).core;
+                  period = (task.row j).period;
+                  start = all at task.task task.place j;
+                };
+          }

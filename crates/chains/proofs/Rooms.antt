@@ -1,35 +1,31 @@
--- One core's bounds in its part of the rooms, from what analysis gives for it. Assumes nothing.
-use Prim.Native.Nat.{ℕ, ◌+◌, ◌-◌, ◌*◌, ◌≤◌, ◌<◌}
+-- One core's bounds in its room, from what analysis gives for it. Assumes nothing.
+use Prim.Native.Nat.{ℕ, ◌≤◌, ◌<◌}
 use native.Mathlib.Omega.{arith}
 use mathlib.Core.Path.{◌≡◌, sym, ap, ◌∙◌}
-use mathlib.Core.List.{List, ◌++◌}
-use mathlib.Core.Logic.{◌⊎◌, inl, inr, ⊎_elim}
-use lib.ListN.{length, get_or, take, drop, get_or-append}
-use lib.Seq.{sets, length-sets}
+use mathlib.Core.List.{List, []}
+use lib.ListN.{length, get_or, set, get_or-append}
+use lib.Seq.{get_or-set_same, get_or-set_other}
+use Rattle.std.specs.Prelude.{Result, Ok, Err}
 use Rattle.lists.specs.Lists.{over}
-use Rattle.lists.proofs.Tests.{either}
-use Rattle.lists.proofs.Parts.{part_length}
-use Rattle.lists.proofs.Splices.{splice_sets}
-use Rattle.lists.proofs.Stores.{sets-at, sets_other}
 use Rattle.model.specs.Task.{Task}
 use Rattle.model.specs.Bounds.{on_core}
 use Rattle.table.specs.declared.Table.{Table}
 use Rattle.table.specs.declared.Verdict.{Verdict}
-use Rattle.table.specs.Verdicts.{code_of}
+use Rattle.table.specs.declared.Verdict.TheVariants.{Good}
+use Rattle.table.specs.Verdicts.{code_of, good}
 use Rattle.table.specs.Memory.{tasks_of}
-use Rattle.table.specs.Faults.{fault_of}
-use Rattle.table.proofs.Codes.{or-good}
+use Rattle.table.proofs.Codes.{good-code}
 use Rattle.table.proofs.GoodCore.{core-fits}
 use Rattle.analysis.specs.declared.Analysed.{Analysed}
-use Rattle.analysis.specs.Analysis.{needed, core_bounds, said_of, writes, room_after, table_said, Gives, AnalysesTable}
+use Rattle.analysis.specs.Analysis.{needed, core_bounds, said_of, writes, room_after, Gives}
+use Rattle.analysis.specs.Promises.{AnalysesGood}
 use Rattle.analysis.proofs.Given.{said_is, room_written, gives_same, answered-verdict}
 use Rattle.analysis.proofs.BoundsPut.{bounds-length}
-use Rattle.chains.specs.Promises.{Filled, Works}
+use Rattle.chains.specs.declared.About.TheVariants as A
+use Rattle.chains.specs.declared.Refusal.{Refusal}
 use Rattle.chains.proofs.Rows.{Sound}
-
--- places of two cores are apart
-apart : (c core k : ℕ) → (c ≡ core → ⊥) → k < 1024 → (c * 1024 + k < core * 1024) ⊎ (core * 1024 + 1024 ≤ c * 1024 + k)
-apart c core k n h = ⊎_elim (λ x. inl (omega arith)) (λ x. inr (omega arith)) (either c core)
+use Rattle.chains.specs.Promises.{room_of, Filled, said_core, Works}
+use Rattle.chains.proofs.CoresSaid.{said-taken, said-not_good}
 
 -- with code 0 analysis leaves the bounds, one for each part
 after-good : (v : Verdict) (rows : List Task) (room : List ℕ) → code_of v ≡ 0 → (k : ℕ) → k < needed rows
@@ -40,62 +36,51 @@ after-good v rows room e k h =
     (get_or-append (core_bounds rows) _ 0 k (omega (arith, bounds-length rows rows)))
 
 module _ {t : Table} (s : Sound t) where
-  -- each core's bounds have room in its part
+  -- each core's bounds have room
   pub needed_few : (core : ℕ) → needed (on_core core (tasks_of t)) ≤ 1024
   unfolding needed
   needed_few core = core-fits t s.rows s.times s.fine core
 
-  -- so what is said of the table's core is what is said with room for every bound
-  said_here : (core room : ℕ) → core ≤ 3 → room ≡ 1024 → table_said t core room ≡ said_of (tasks_of t) core
-  unfolding table_said
-  said_here core room h e =
-      let rows = on_core core (tasks_of t) in
-      or-good (fault_of t) _ s.fine
-      ∙ said_is core rows room h (omega (arith, needed_few core)) ∙ sym (said_is core rows (needed rows) h (omega arith))
+  module _ (core : ℕ) (small : core ≤ 3) (rooms : List (List ℕ)) (four : length rooms ≡ 4) (long : length (room_of rooms core) ≡ 1024)
+      {a : Analysed} {room : List ℕ} (given : AnalysesGood t core (room_of rooms core) a room) where
+    -- the core's room becomes as what is said of it gives
+    gives : Gives (said_of (tasks_of t) core) (on_core core (tasks_of t)) (room_of rooms core) a room
+    gives =
+        let rows = on_core core (tasks_of t) in
+        gives_same
+        (said_is core rows (length (room_of rooms core)) small (omega (arith, long, needed_few core))
+        ∙ sym (said_is core rows (needed rows) small (omega arith)))
+        given
 
-  module _ (core : ℕ) (small : core ≤ 3) (rooms : List ℕ) (long : length rooms ≡ 4096) where
-    -- where the core's part begins
-    abbrev from : ℕ
-    from = core * 1024
+    -- the verdict is that
+    pub verdict : a.verdict ≡ said_of (tasks_of t) core
+    verdict = ap (λ (x : Analysed). x.verdict) gives.answer ∙ answered-verdict (said_of (tasks_of t) core) (on_core core (tasks_of t))
 
-    -- the part of the rooms that is lent
-    abbrev lent : List ℕ
-    lent = take (from + 1024 - from) (drop from rooms)
+    -- where it is good the room has the core's bounds
+    own-bounds : code_of (said_of (tasks_of t) core) ≡ 0 → Filled (tasks_of t) (set rooms core room) core
+    own-bounds e =
+        record {
+          bound = λ k h.
+              rw (get_or-set_same rooms core room [] (omega (arith, four)), gives.left)
+              (after-good (said_of (tasks_of t) core) (on_core core (tasks_of t)) (room_of rooms core) e k h);
+        }
 
-    -- what it becomes
-    module _ {a : Analysed} {part : List ℕ} (given : AnalysesTable t core lent a part) (same : length part ≡ length lent) where
-      -- it is 1,024 long
-      part_long : length part ≡ 1024
-      part_long = same ∙ part_length from 1024 rooms (omega arith)
+    -- the core is worked out, and the other rooms stay
+    works : {r : Result (Unit {0}) Refusal} → r ≡ said_core core a.verdict → Works (tasks_of t) core rooms r (set rooms core room)
+    works {r} e =
+        let said : r ≡ said_core core (said_of (tasks_of t) core) = e ∙ ap (said_core core) verdict in
+        record {
+          said = said;
+          filled = λ z. own-bounds (good-code _ (said-taken core _ (sym z ∙ said)));
+          others = λ c n f. record { bound = λ k h. rw (get_or-set_other rooms core c room [] n) (f.bound k h) };
+        }
 
-      -- as what is said of the core gives
-      gives : Gives (said_of (tasks_of t) core) (on_core core (tasks_of t)) lent a part
-      gives = gives_same (said_here core (length lent) small (sym same ∙ part_long)) given
+    -- and good
+    pub works_good : a.verdict ≡ Good → Works (tasks_of t) core rooms (Ok tt) (set rooms core room)
+    unfolding good
+    works_good e = works (rw e)
 
-      -- the verdict is that
-      verdict : a.verdict ≡ said_of (tasks_of t) core
-      verdict = ap (λ (x : Analysed). x.verdict) gives.answer ∙ answered-verdict (said_of (tasks_of t) core) (on_core core (tasks_of t))
-
-      -- with code 0 the rooms have the core's bounds
-      own-bounds : code_of a.verdict ≡ 0 → Filled (tasks_of t) (sets rooms from part) core
-      own-bounds e =
-          record {
-            bound = λ k h.
-                sets-at 0 rooms from part k (omega (arith, part_long)) (omega (arith, part_long, needed_few core))
-                ∙ ap (λ (xs : List ℕ). get_or xs k 0) gives.left
-                ∙ after-good (said_of (tasks_of t) core) (on_core core (tasks_of t)) lent (sym (ap code_of verdict) ∙ e) k h;
-          }
-
-      -- another core's bounds stay
-      other_bounds : (c : ℕ) → (c ≡ core → ⊥) → Filled (tasks_of t) rooms c → Filled (tasks_of t) (sets rooms from part) c
-      other_bounds c n f =
-          record {
-            bound = λ k h.
-                sets_other 0 rooms from part (c * 1024 + k) (rw part_long (apart c core k n (omega (arith, needed_few c)))) ∙ f.bound k h;
-          }
-
-      -- the core is worked out
-      pub works : Works (tasks_of t) core rooms a.verdict (take from rooms ++ (part ++ drop (from + 1024 - from) (drop from rooms)))
-      works =
-          rw (splice_sets rooms from 1024 part part_long (omega arith))
-          (record { said = verdict; filled = own-bounds; others = other_bounds; long = length-sets rooms from part })
+    -- or refused
+    pub works_bad : (a.verdict ≡ Good → ⊥)
+        → Works (tasks_of t) core rooms (Err (record { about = A.Core core; verdict = a.verdict })) (set rooms core room)
+    works_bad h = works (said-not_good core a.verdict h)

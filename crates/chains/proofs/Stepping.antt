@@ -1,110 +1,72 @@
 -- The steps of a list read one by one: what was read so far, and what the definition says of the rest. Assumes nothing.
-use Prim.Native.Nat.{ℕ, suc, ◌+◌, ◌-◌, ◌*◌, ◌≤◌, ◌<◌}
-use native.Mathlib.Nat.{sub-zero, add-sub_cancel_left}
+use Prim.Native.Nat.{ℕ, suc, ◌+◌, ◌-◌, ◌≤◌, ◌<◌}
 use native.Mathlib.Omega.{arith}
-use borrow.Author.Tests.{lt-ltb, le-ltb}
-use mathlib.Core.Path.{◌≡◌, refl, ◌∙◌}
-use mathlib.Core.List.{List, [], ◌∷◌, ◌++◌, append-nil}
-use lib.ListN.{length, take, drop, replicate, length-append}
-use lib.Dec.{lit<}
-use Rattle.lists.specs.Lists.{pad_to}
-use Rattle.lists.proofs.Pads.{splice_pad}
-use Rattle.lists.proofs.PadStores.{pad-length}
-use Rattle.lists.proofs.Parts.{part_length}
+use mathlib.Core.Path.{◌≡◌, refl, sym, ap, ◌∙◌}
+use mathlib.Core.List.{List, [], ◌∷◌, ◌++◌, append_assoc, append-nil}
+use lib.ListN.{length, get_or, length-append}
 use Rattle.table.specs.declared.Verdict.{Verdict}
-use Rattle.table.specs.declared.Verdict.TheVariants.{Good, Trailing}
-use Rattle.table.specs.Fields.{wanted, LowsHighs}
-use Rattle.table.proofs.Seven.{all-length}
-use Rattle.fields.specs.Stepping.{Step, stop, go, ◌then◌, field_at, fields_at}
-use Rattle.fields.specs.Promises.{AllBelow}
-use Rattle.fields.proofs.Below.{none_below, more_below}
+use Rattle.table.specs.declared.Wanted.{Wanted}
+use Rattle.table.specs.Fields.{field}
+use Rattle.fields.specs.Stepping.{stop, go, ◌then◌, field_at, fields_at}
 use Rattle.fields.proofs.Steps.{fields-append}
-use Rattle.fields.proofs.Taken.{in_file, taken_all}
-use Rattle.chains.specs.Lists.{steps_wanted, steps_at}
-use Rattle.chains.specs.Promises.{as_listed}
-use Rattle.chains.proofs.Steps.{steps_of}
+use Rattle.chains.specs.declared.ChainStep.{ChainStep}
+use Rattle.chains.specs.Lists.{steps_wanted, steps_from, steps_at}
 
--- the least and the most that a task id and a part may be, as the code has them
-abbrev pub step_lows : List ℕ
-step_lows = 1 ∷ 1 ∷ []
+-- what a step's two numbers may be
+abbrev pub pair_wanted : List Wanted
+pair_wanted = field 1 65535 ∷ field 1 64 ∷ []
 
-abbrev pub step_highs : List ℕ
-step_highs = 65535 ∷ 64 ∷ []
-
--- the numbers of one step
-abbrev pub step : List ℕ → ℕ → Step (List ℕ)
-step s p = fields_at (field_at s) (wanted step_lows step_highs) [] p
+-- two numbers are a step
+one_step : (pair : List ℕ) → length pair ≡ 2 → (more : List ℕ)
+    → steps_from (pair ++ more) ≡ record { task = get_or pair 0 0; part = get_or pair 1 0 } ∷ steps_from more
+unfolding steps_from
+one_step [] two more = absurd (omega arith)
+one_step (task ∷ []) two more = absurd (omega arith)
+one_step (task ∷ part ∷ []) two more = refl
+one_step (task ∷ part ∷ n ∷ ns) two more = absurd (omega arith)
 
 -- i steps are read, and the next is wanted at p
-pub record Stepping (s : List ℕ) (at n : ℕ) (numbers : List ℕ) (p i : ℕ) : Type 0 where
+pub record Stepping (s : List ℕ) (at n : ℕ) (steps : List ChainStep) (p i : ℕ) : Type 0 where
   pub done : List ℕ
-  pub count : length done ≡ 2 * i
+  pub held : (more : List ℕ) → steps_from (done ++ more) ≡ steps ++ steps_from more
+  pub count : length steps ≡ i
   pub upto : i ≤ n
-  pub put : numbers ≡ pad_to 0 64 done
   pub same : fields_at (field_at s) (steps_wanted n) [] at ≡ fields_at (field_at s) (steps_wanted (n - i)) done p
 
--- at first none is
-pub none_read : (s : List ℕ) (at n : ℕ) → Stepping s at n (replicate 64 0) at 0
-none_read s at n = record { done = []; count = refl; upto = omega arith; put = refl; same = rw sub-zero }
+module _ {s : List ℕ} {at n : ℕ} {steps : List ChainStep} {p i : ℕ} (k : Stepping s at n steps p i) where
+  -- one is left: its numbers, and those behind them
+  next : i < n → fields_at (field_at s) (steps_wanted n) [] at
+      ≡ (fields_at (field_at s) pair_wanted [] p then λ ns m. fields_at (field_at s) (steps_wanted (n - (i + 1))) (k.done ++ ns) m)
+  unfolding steps_wanted
+  next some =
+      let left : n - i ≡ suc (n - (i + 1)) = omega arith in
+      let one_more = fields-append (field_at s) pair_wanted (steps_wanted (n - (i + 1))) k.done [] p in
+      k.same ∙ rw left (rw append-nil at one_more)
 
-module _ {s : List ℕ} {at n : ℕ} {numbers : List ℕ} {p i : ℕ} (k : Stepping s at n numbers p i) where
-  -- one is left
-  module _ (some : i < n) where
-    -- the numbers of the next step, and those behind them
-    next : fields_at (field_at s) (steps_wanted n) [] at
-        ≡ (step s p then λ ns m. fields_at (field_at s) (steps_wanted (n - (i + 1))) (k.done ++ ns) m)
-    unfolding steps_wanted wanted
-    next =
-        let left : n - i ≡ suc (n - (i + 1)) = omega arith in
-        let one_more = fields-append (field_at s) (wanted step_lows step_highs) (steps_wanted (n - (i + 1))) k.done [] p in
-        k.same ∙ rw left (rw append-nil at one_more)
+  -- one of its numbers is refused
+  pub step_stops : i < n → (v : Verdict) → fields_at (field_at s) pair_wanted [] p ≡ stop v → steps_at s n at ≡ stop v
+  unfolding steps_at ◌then◌
+  step_stops some v e = rw (next some, e)
 
-    -- one of its numbers is refused
-    pub step_stops : (v : Verdict) → step s p ≡ stop v → as_listed (stop v) ≡ as_listed (steps_at s n at)
-    unfolding steps_at ◌then◌
-    step_stops v e = rw (next, e)
+  -- it is read: one step more
+  pub step-read : i < n → (pair : List ℕ) (q : ℕ) → length pair ≡ 2 → fields_at (field_at s) pair_wanted [] p ≡ go pair q
+      → Stepping s at n (steps ++ (record { task = get_or pair 0 0; part = get_or pair 1 0 } ∷ [])) q (i + 1)
+  unfolding ◌then◌
+  step-read some pair q two e = record {
+    done = k.done ++ pair;
+    held = λ more.
+        rw (append_assoc k.done pair more, k.held (pair ++ more), one_step pair two more, append_assoc steps _ (steps_from more));
+    count = rw length-append (omega (arith, k.count));
+    upto = omega arith;
+    same = next some ∙ rw e;
+  }
 
-    module _ (few : n ≤ 32) where
-      -- there is room for it
-      pub room : 2 * i + 2 ≤ length numbers
-      room = rw k.put (omega (arith, pad-length 0 64 k.done (omega (arith, k.count))))
+  -- none is left: all numbers are read
+  pub all_read : n ≤ i → fields_at (field_at s) (steps_wanted n) [] at ≡ go k.done p
+  unfolding steps_wanted fields_at
+  all_read last = let none : n - i ≡ 0 = omega arith in k.same ∙ rw none
 
-      -- its ranges fit that
-      pub ranges_fit : LowsHighs (length (take (2 * i + 2 - 2 * i) (drop (2 * i) numbers))) step_lows step_highs
-          × AllBelow step_highs 16777216
-      ranges_fit =
-          rw (part_length (2 * i) 2 numbers room)
-          (record { lows = refl; highs = refl }, more_below (lit< tt) (more_below (lit< tt) (none_below (lit< tt))))
-
-    -- it is read: one step more
-    pub step-read : {part : List ℕ} {q : ℕ} → step s p ≡ go part q
-        → Stepping s at n (take (2 * i) numbers ++ (part ++ drop (2 * i + 2 - 2 * i) (drop (2 * i) numbers))) q (i + 1)
-    unfolding wanted ◌then◌
-    step-read {part} {q} e =
-        let two : length part ≡ 2 = all-length _ part (taken_all (in_file s) _ p part q e).fine in
-        record {
-          done = k.done ++ part;
-          count = rw length-append (omega (arith, k.count));
-          upto = omega arith;
-          put = rw (add-sub_cancel_left, ← k.count, ← two, k.put) (splice_pad 0 64 k.done part);
-          same = next ∙ rw e;
-        }
-
-  -- none is left
-  module _ (last : n ≤ i) where
-    -- all numbers are read
-    all : fields_at (field_at s) (steps_wanted n) [] at ≡ go k.done p
-    unfolding steps_wanted fields_at
-    all = let none : n - i ≡ 0 = omega arith in k.same ∙ rw none
-
-    -- and bytes stand behind them
-    pub steps_behind : p < length s → as_listed (stop (Trailing p)) ≡ as_listed (steps_at s n at)
-    unfolding steps_at ◌then◌
-    steps_behind h = rw (all, lt-ltb p (length s) h)
-
-    -- and the list ends
-    pub steps_read : length s ≤ p → record { verdict = Good; count = n; numbers = numbers } ≡ as_listed (steps_at s n at)
-    unfolding steps_at ◌then◌
-    steps_read h =
-        let as_many : length k.done ≡ 2 * n = omega (arith, k.count, k.upto) in
-        rw (all, le-ltb p (length s) h, steps_of n k.done as_many, k.put)
+  -- their steps are these
+  pub all_held : steps_from k.done ≡ steps
+  unfolding steps_from
+  all_held = sym (ap steps_from (append-nil k.done)) ∙ k.held [] ∙ append-nil steps

@@ -1,21 +1,16 @@
--- The steps that numbers make, two numbers a step: how many, which parts they name, and each of them in turn. Assumes nothing.
-use Prim.Native.Nat.{ℕ, zero, suc, ◌+◌, ◌*◌, ◌≤◌, ◌<◌}
+-- The steps that numbers make, two numbers a step: how many, and which parts they name. Assumes nothing.
+use Prim.Native.Nat.{ℕ, zero, suc, ◌*◌, ◌≤◌}
 use native.Mathlib.Omega.{arith}
 use mathlib.Core.Path.{◌≡◌, refl, ap, ◌∙◌}
 use mathlib.Core.Logic.{⊎_elim}
 use mathlib.Core.List.Memᴰ
 use mathlib.Core.List.{List, [], ◌∷◌}
-use lib.ListN.{length, get_or, take, drop, drop_of_length-le}
-use lib.Seq.{length-take-le}
+use lib.ListN.{length}
 use Rattle.lists.specs.Lists.{◌∈◌}
-use Rattle.lists.proofs.Walks.{taken_more}
 use Rattle.table.proofs.Fine.{AllFine}
 use Rattle.table.proofs.Seven.{all-length}
-use Rattle.chains.specs.declared.Listed.{Listed}
-use Rattle.chains.specs.Lists.{ChainStep, steps_wanted, steps_from}
-use Rattle.chains.specs.Promises.{steps_in}
-
--- ---- how many, and which parts
+use Rattle.chains.specs.declared.ChainStep.{ChainStep}
+use Rattle.chains.specs.Lists.{steps_wanted, steps_from}
 
 -- two numbers for each step
 steps_long : (n : ℕ) → length (steps_wanted n) ≡ 2 * n
@@ -45,42 +40,3 @@ steps_of zero (x ∷ ns) e = absurd (omega arith)
 steps_of (suc n) [] e = absurd (omega arith)
 steps_of (suc n) (x ∷ []) e = absurd (omega arith)
 steps_of (suc n) (x ∷ y ∷ ns) e = ap suc (steps_of n ns (omega arith))
-
--- so the code holds as many as it says
-pub steps_in_lem : (l : Listed) → l.count ≤ 32 → length l.numbers ≡ 64 → length (steps_in l) ≡ l.count
-steps_in_lem l few long = steps_of l.count _ (length-take-le (2 * l.count) l.numbers (omega arith))
-
--- ---- one by one
-
--- step i as the numbers have it
-abbrev pub listed_step : List ℕ → ℕ → ChainStep
-listed_step ns i = record { task = get_or ns (2 * i) 0; part = get_or ns (2 * i + 1) 0 }
-
--- one step more is two numbers more
-twice : (n : ℕ) → 2 * suc n ≡ suc (suc (2 * n))
-twice n = omega arith
-
--- so those from step i on are from number 2 i on
-steps_drop : (i : ℕ) (ns : List ℕ) → drop i (steps_from ns) ≡ steps_from (drop (2 * i) ns)
-unfolding steps_from
-steps_drop zero ns = refl
-steps_drop (suc i) [] = rw (twice i)
-steps_drop (suc i) (n ∷ []) = rw (twice i)
-steps_drop (suc i) (n ∷ m ∷ ns) = rw (twice i) (steps_drop i ns)
-
-module _ (ns : List ℕ) (n : ℕ) (long : 2 * n ≤ length ns) (i : ℕ) where
-  -- the steps from step i on: that one, and the others
-  pub next-step : i < n → drop i (steps_from (take (2 * n) ns)) ≡ listed_step ns i ∷ drop (i + 1) (steps_from (take (2 * n) ns))
-  unfolding steps_from
-  next-step h =
-      let numbers : drop (2 * i) (take (2 * n) ns) ≡ get_or ns (2 * i) 0 ∷ get_or ns (2 * i + 1) 0 ∷ drop (2 * i + 1 + 1) (take (2 * n) ns)
-      = taken_more 0 (2 * n) ns (2 * i) (omega arith) long ∙ rw (taken_more 0 (2 * n) ns (2 * i + 1) (omega arith) long) in
-      let two : 2 * i + 1 + 1 ≡ 2 * (i + 1) = omega arith in
-      rw (steps_drop i, steps_drop (i + 1), numbers, two)
-
-  -- past the last there is none
-  pub no_step_lem : n ≤ i → drop i (steps_from (take (2 * n) ns)) ≡ []
-  unfolding steps_from
-  no_step_lem h =
-      let all : length (take (2 * n) ns) ≤ 2 * i = rw (length-take-le (2 * n) ns long) (omega arith) in
-      rw (steps_drop i, drop_of_length-le (take (2 * n) ns) all)

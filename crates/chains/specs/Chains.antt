@@ -12,7 +12,8 @@ use Rattle.analysis.specs.Analysis.{said_of}
 use Rattle.chains.specs.declared.About.{About}
 use Rattle.chains.specs.declared.About.TheVariants as A
 use Rattle.chains.specs.declared.Delayed.{Delayed}
-use Rattle.chains.specs.Lists.{ChainStep, decode_list}
+use Rattle.chains.specs.declared.ChainStep.{ChainStep}
+use Rattle.chains.specs.Lists.{decode_list}
 
 -- step n, whose task is t: that part of it, counted from 0, or 16 for an unknown part
 unfoldable pub part_at : Task → ChainStep → ℕ → Step Link

@@ -2,13 +2,10 @@
 use Rattle.std.specs.Prelude.{ℕ, zero, suc, List, [], ◌∷◌, length, ltb}
 use Rattle.lists.specs.Lists.{pick}
 use Rattle.table.specs.declared.Verdict.TheVariants.{Trailing}
-use Rattle.table.specs.Fields.{Wanted, field}
+use Rattle.table.specs.declared.Wanted.{Wanted}
+use Rattle.table.specs.Fields.{field}
+use Rattle.chains.specs.declared.ChainStep.{ChainStep}
 use Rattle.fields.specs.Stepping.{Step, stop, go, ◌then◌, field_at, fields_at}
-
--- a step as the list has it: a task id, and a part, from 1
-pub record ChainStep : Type 0 where
-  pub task : ℕ
-  pub part : ℕ
 
 -- 1 to 32 steps
 abbrev pub step_count : Wanted

@@ -15,7 +15,8 @@ use Rattle.lists.proofs.Anys.{none_cons, none_drop}
 use Rattle.text.specs.Text.{line_feed, decimal}
 use Rattle.text.proofs.Numerals.{decimal_first, decimal-end}
 use Rattle.table.specs.Verdicts.{code_of, good, ◌or_else◌}
-use Rattle.table.specs.Fields.{Wanted, time, judge}
+use Rattle.table.specs.declared.Wanted.{Wanted}
+use Rattle.table.specs.Fields.{time, judge}
 use Rattle.table.proofs.Codes.{first_good, then_good}
 use Rattle.table.proofs.Fine.{Fine, fine_good, good_fine}
 use Rattle.fields.specs.Stepping.{go, ◌then◌, unless}
@@ -24,7 +25,7 @@ use Rattle.fields.proofs.RowRead.{TimesReader}
 use Rattle.fields.proofs.TimesRead.{times-parts, times_fine}
 use Rattle.fields.specs.declared.Ending.{Ending}
 use Rattle.fields.specs.declared.Ending.TheVariants.{Comma, Line, Text}
-use Rattle.fields.specs.declared.Way.TheVariants.{Commas}
+use Rattle.fields.specs.Ways.{Commas}
 use Rattle.fields.specs.TextFields.{comma, quote, value_at, ending_at, fits, misfit, text_field, text_times}
 use Rattle.comma.specs.Writing.{line_end}
 use Rattle.comma.specs.Claims.{Plain}

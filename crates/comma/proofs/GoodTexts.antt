@@ -10,7 +10,8 @@ use Rattle.text.specs.Text.{line_feed}
 use Rattle.model.specs.Task.{Task}
 use Rattle.table.specs.declared.Verdict.TheVariants.{Good, OutOfRange, BadText}
 use Rattle.table.specs.Verdicts.{code_of, good}
-use Rattle.table.specs.Fields.{Wanted, time}
+use Rattle.table.specs.declared.Wanted.{Wanted}
+use Rattle.table.specs.Fields.{time}
 use Rattle.table.specs.Memory.{all_times, stored, rows_of}
 use Rattle.table.specs.Clash.{clash_of}
 use Rattle.table.proofs.GoodTasks.{GoodTasks}

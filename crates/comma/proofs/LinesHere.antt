@@ -13,7 +13,8 @@ use Rattle.lists.proofs.Drops.{next_here}
 use Rattle.lists.proofs.Each.{each_snoc_length}
 use Rattle.text.specs.Text.{decimal}
 use Rattle.model.specs.Task.{Task}
-use Rattle.table.specs.Fields.{Wanted, head, time, fields_of}
+use Rattle.table.specs.declared.Wanted.{Wanted}
+use Rattle.table.specs.Fields.{head, time, fields_of}
 use Rattle.table.specs.Memory.{row_of, all_times}
 use Rattle.table.proofs.Fine.{Fine, AllFine}
 use Rattle.table.proofs.Heads.{good-head}

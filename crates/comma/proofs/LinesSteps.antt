@@ -9,12 +9,10 @@ use lib.ListN.{length}
 use Rattle.model.specs.Task.{Task}
 use Rattle.table.specs.declared.Verdict.{Verdict}
 use Rattle.table.specs.declared.Verdict.TheVariants.{OutOfRange}
-use Rattle.table.specs.Memory.{all_times, stored}
-use Rattle.fields.specs.Stepping.{stop, go, ◌then◌}
-use Rattle.files.specs.Reading.{loaded}
-use Rattle.files.specs.Promises.{answer_with}
-use Rattle.files.proofs.Steps.{answer-stored}
-use Rattle.comma.specs.Reading.{line_at, lines_at, decode_text, read_text}
+use Rattle.table.specs.Memory.{all_times, rows_of}
+use Rattle.table.specs.Clash.{clash_of}
+use Rattle.fields.specs.Stepping.{stop, go, ◌then◌, unless}
+use Rattle.comma.specs.Reading.{line_at, lines_at, decode_text}
 
 module _ (done : List Task) (s : List ℕ) (p : ℕ) where
   -- at the text's end
@@ -49,11 +47,11 @@ module _ (done : List Task) (s : List ℕ) (p : ℕ) where
 
 module _ (s : List ℕ) where
   -- lines that are refused
-  pub text_stops : (v : Verdict) → lines_at 64 [] s 0 ≡ stop v → loaded (stop v) ≡ read_text s
-  unfolding read_text decode_text ◌then◌
-  text_stops v e = rw e
+  pub text_stops : {v : Verdict} → lines_at 64 [] s 0 ≡ stop v → decode_text s ≡ stop v
+  unfolding decode_text ◌then◌
+  text_stops e = rw e
 
-  -- lines that are read
-  pub text_ends : (ts : List Task) (n : ℕ) → lines_at 64 [] s 0 ≡ go ts n → answer_with (stored ts) ≡ read_text s
-  unfolding read_text decode_text ◌then◌
-  text_ends ts n e = rw e (answer-stored ts n)
+  -- lines that are read, and the rules over all of them
+  pub text_ends : {ts : List Task} {n : ℕ} → lines_at 64 [] s 0 ≡ go ts n → decode_text s ≡ unless (clash_of (rows_of ts)) ts n
+  unfolding decode_text ◌then◌
+  text_ends e = rw e

@@ -9,10 +9,11 @@ use Rattle.lists.specs.Lists.{total}
 use Rattle.lists.proofs.Each.{each_snoc_length}
 use Rattle.lists.proofs.Totals.{total_snoc}
 use Rattle.model.specs.Task.{Task}
-use Rattle.table.specs.Fields.{Wanted, head, time, row_from}
+use Rattle.table.specs.declared.Wanted.{Wanted}
+use Rattle.table.specs.Fields.{head, time, row_from}
 use Rattle.table.specs.Memory.{all_times}
 use Rattle.fields.specs.Stepping.{go}
-use Rattle.fields.specs.declared.Way.TheVariants.{Commas}
+use Rattle.fields.specs.Ways.{Commas}
 use Rattle.fields.proofs.Taken.{taken_all, head_read}
 use Rattle.fields.proofs.RowRead.{row_pieces}
 use Rattle.fields.proofs.TimesRead.{times-parts}

@@ -1,86 +1,79 @@
 // Comma-separated lines of a spreadsheet: read into a table in memory, and written from one.
 #![tactic(auto)]
 
-ghost use Rattle.std.specs.Prelude.{◌≤◌, ◌≡◌, length};
-ghost use Rattle.text.specs.Promises.{Fits, PutAt};
-ghost use Rattle.table.specs.Verdicts.{code_of};
-ghost use Rattle.table.specs.Faults.{fault_of};
-ghost use Rattle.comma.specs.Reading.{read_text};
-ghost use Rattle.comma.specs.Writing.{table_lines, WroteText};
+ghost use Rattle.std.specs.Prelude.{◌≤◌, ◌≡◌, ◌++◌, [], length};
+ghost use Rattle.text.specs.Promises.{Fits};
+ghost use Rattle.table.specs.Memory.{tasks_of};
+ghost use Rattle.files.specs.Promises.{Loads};
+ghost use Rattle.comma.specs.Reading.{decode_text, read_text};
+ghost use Rattle.comma.specs.Writing.{lines_of, WroteText};
 ghost use Rattle.comma.specs.Promises.{line_text};
 
-use fields::{Head, Way};
+use fields::{Commas, Growing};
 use files::Loaded;
-use table::{Row, Table, Verdict, Written};
+use table::{GoodTable, Row, Table, Verdict, Written};
+use text::Page;
 
-// Reads a text: line by line to its end, at most 64, then the rules over the whole table.
+// A table's text has at most so many bytes.
+type Lines = Page<11520>;
+
+// Reads a text, line by line to its end, at most 64, then the rules over the whole table: a table that nothing stands against, or why
+// it is refused.
+pub fn load(text: &[u8]) -> Result<GoodTable, Verdict>
+    ensures { Loads (decode_text text.now) result }
+{
+    let mut growing = Growing::new();
+    let mut p = 0;
+    // where the next line begins is known once this one is read: a `while`
+    while p < text.len() {
+        if growing.table.count == 64 {
+            return Err(Verdict::OutOfRange(p));
+        }
+        p = growing.read_row::<Commas>(text, p)?;
+    }
+    let table = growing.table;
+    table.check_clashes()?;
+    Ok(GoodTable { table })
+}
+
+// Reads a text: the verdict, and the table, zeros where it is refused.
 pub fn read(text: &[u8]) -> Loaded
     ensures { result ≡ read_text text.now }
 {
-    let row0 = table::row_of([0u32; 7]);
-    let mut rows = [row0; 64];
-    let mut times = [0u32; 1024];
-    let mut p = 0;
-    let mut used: u32 = 0;
-    let mut count = 0;
-    while p < text.len() {
-        if count == 64 {
-            return files::refuse(Verdict::OutOfRange(p));
-        }
-        match fields::read_row(Way::Commas, text, p, used, &mut times) {
-            Head::Refused(v) => return files::refuse(v),
-            Head::Got { row, next } => {
-                rows[count] = row;
-                used += row.parts;
-                p = next;
-            }
-        }
-        count += 1;
-    }
-    files::answer_with(Table { count, rows, times })
+    Loaded::from(load(text))
 }
 
-// Writes the line of a row at `at`; where it ends.
-fn put_line(out: &mut [u8], at: usize, row: Row, times: &[u32]) -> usize
-    requires { (1 ≤ length times.now) × Fits (line_text row times.now) at out.old }
-    ensures { PutAt (line_text row times.now) at out.old result out.new }
+// Writes the line of a row behind those that are there.
+fn put_line(lines: &mut Lines, row: &Row, times: &[u32])
+    requires some { 1 ≤ length times.now }
+    requires room { Fits (line_text row.now times.now) lines.old 11520 }
+    ensures { lines.new ≡ lines.old ++ line_text row.now times.now }
 {
-    let fields = table::fields_of(row);
-    let p = text::put_numbers(out, at, &fields, b',', b',');
-    let q = text::put_numbers(out, p, times, b',', b'\r');
-    out[q] = b'\n';
-    q + 1
+    lines.put_numbers(&<[u32; 7]>::from(*row), b',', b',');
+    lines.put_numbers(times, b',', b'\r');
+    lines.put(b"\n");
 }
 
-// Writes the lines of a good table; where they end.
-fn put_lines(out: &mut [u8], t: Table) -> usize
-    requires { (code_of (fault_of t) ≡ 0) × Fits (table_lines t) 0 out.old }
-    ensures { PutAt (table_lines t) 0 out.old result out.new }
+// The lines of a table.
+fn lines_of(t: &GoodTable) -> Lines
+    ensures { result ≡ lines_of (tasks_of t.now.table) }
 {
-    let n = t.count;
-    let times = t.times;
-    let mut p = 0;
-    let mut used: usize = 0;
-    let mut i = 0;
-    while i < n {
-        let row = t.rows[i];
-        let end = used + row.parts as usize;
-        p = put_line(out, p, row, &times[used..end]);
-        used = end;
-        i += 1;
+    let mut lines = Page::new();
+    let mut rest = &t.table.times[..];
+    for row in t.table.used_rows() {
+        let (times, behind) = rest.split_at(row.parts as usize);
+        put_line(&mut lines, row, times);
+        rest = behind;
     }
-    p
+    lines
 }
 
 // Writes a table as text: what stands against it first, then the room, and only then the bytes.
-pub fn write(table: Table, out: &mut [u8]) -> Written
-    ensures { WroteText table out.old result out.new }
+pub fn write(table: &Table, out: &mut [u8]) -> Written
+    ensures { WroteText table.now out.old result out.new }
 {
-    let fault = table::fault_of(table);
-    if table::code_of(fault) != 0 {
-        return table::refused(fault);
+    match GoodTable::try_from(*table) {
+        Ok(good) => files::write_bytes(lines_of(&good).as_slice(), out),
+        Err(fault) => Written::from(Err(fault)),
     }
-    let mut text = [0u8; 11520];
-    let n = put_lines(&mut text, table);
-    files::write_bytes(&text[..n], out)
 }

@@ -1,4 +1,4 @@
+pub mod Folds
 pub mod Wanted
 pub mod AskedRows
 pub mod GoodCores
-pub mod Fronts

@@ -4,7 +4,7 @@ use mathlib.Core.Path.{◌≡◌, refl, sym, ap, ◌∙◌}
 use mathlib.Core.Logic.{◌⊎◌, inl, inr, ⊎_elim}
 use mathlib.Core.List.{List, [], ◌∷◌, ◌++◌, append_assoc, append-nil}
 use Rattle.table.specs.declared.Verdict.{Verdict}
-use Rattle.table.specs.Fields.{Wanted}
+use Rattle.table.specs.declared.Wanted.{Wanted}
 use Rattle.fields.specs.Stepping.{Step, stop, go, ◌then◌, fields_at}
 use Rattle.demands.specs.Reached.{Along}
 

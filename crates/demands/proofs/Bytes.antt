@@ -11,8 +11,8 @@ use lib.Dec.{ltb}
 use Rattle.lists.specs.Lists.{Place}
 use Rattle.lists.proofs.Tests.{by_test, never}
 use Rattle.numbers.specs.Numbers.{after, last, groups, number_at}
-use Rattle.numbers.specs.declared.Number.{Number}
-use Rattle.numbers.specs.declared.Number.TheVariants as N
+use Rattle.numbers.specs.Numbers.{Number}
+use Rattle.numbers.specs.Numbers as N
 use Rattle.demands.specs.Reached.{GoOn, CutOff, ZeroLast, IllFormed}
 
 -- bytes that go on, behind one more

@@ -24,7 +24,7 @@ use Rattle.fields.proofs.Taken.{stopped_not}
 use Rattle.analysis.specs.Analysis.{needed, said_of}
 use Rattle.chains.specs.declared.About.TheVariants as A
 use Rattle.chains.specs.declared.Delayed.{Delayed}
-use Rattle.chains.specs.Lists.{ChainStep}
+use Rattle.chains.specs.declared.ChainStep.{ChainStep}
 use Rattle.chains.specs.Chains.{part_at, link_at, links_at, no_delay, cores_said, step_core}
 use Rattle.chains.proofs.CoresSaid.{cores_none, cores-next, cores_stop}
 use Rattle.demands.specs.Rules.{GoodFile}

@@ -20,7 +20,7 @@ use Rattle.fields.specs.Stepping.{◌then◌}
 use Rattle.chains.specs.declared.About.{About}
 use Rattle.chains.specs.declared.About.TheVariants as A
 use Rattle.chains.specs.declared.Delayed.{Delayed}
-use Rattle.chains.specs.Lists.{ChainStep}
+use Rattle.chains.specs.declared.ChainStep.{ChainStep}
 use Rattle.chains.specs.Chains.{no_delay, good_delay, step_core, cores_said, chain_in, chain_said, answer_for, delay_answer}
 use Rattle.chains.proofs.Fronts.{list-of_the_front, table-of_the_front}
 use Rattle.demands.specs.Rules.{GoodFile}

@@ -13,8 +13,8 @@ use Rattle.lists.specs.Lists.{any, Place}
 use Rattle.lists.proofs.Tests.{by_test, never, both, either, not_below}
 use Rattle.lists.proofs.Places.{place_below, place_some}
 use Rattle.table.specs.declared.Row.{Row}
-use Rattle.table.specs.declared.Rule.{Rule}
-use Rattle.table.specs.declared.Rule.TheVariants as R
+use Rattle.table.specs.Rules.{Rule}
+use Rattle.table.specs.Rules as R
 use Rattle.table.specs.declared.Verdict.{Verdict}
 use Rattle.table.specs.declared.Verdict.TheVariants as C
 use Rattle.table.specs.Verdicts.{good, ◌or_else◌}

@@ -18,7 +18,7 @@ use Rattle.model.proofs.Chains.{same_job_lem, rising_same, delay_none, delay-las
 use Rattle.machine.specs.Passing.{StepOf}
 use Rattle.table.specs.declared.Verdict.TheVariants.{Good}
 use Rattle.model.proofs.Most.{bound-most}
-use Rattle.chains.specs.Lists.{ChainStep}
+use Rattle.chains.specs.declared.ChainStep.{ChainStep}
 use Rattle.demands.specs.Rules.{GoodFile}
 use Rattle.demands.specs.Chains.{Names, CoreSays, Counts, BoundIs, SumIs}
 use Rattle.demands.proofs.CoreRule.{passes_code}

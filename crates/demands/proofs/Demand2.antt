@@ -7,7 +7,7 @@ use mathlib.Core.List.{List}
 use lib.ListN.{length}
 use Rattle.lists.specs.Lists.{◌∈◌}
 use Rattle.lists.proofs.Places.{place_in_lem}
-use Rattle.model.specs.declared.Found.TheVariants.{At}
+use Rattle.std.specs.Prelude.{Some}
 use Rattle.model.specs.Task.{Task, parts}
 use Rattle.model.specs.Rows.{GoodCore}
 use Rattle.model.specs.Bounds.{on_core, window, bound}
@@ -50,7 +50,7 @@ module _ (rows : List Task) (core : GoodCore rows) where
   meets_passes : ((t : Task) → t ∈ rows → Meets rows t) → Passes rows
   meets_passes all = record { windows = λ t m. ((all t m).L, found t m); meets = within }
     where
-      found : (t : Task) (m : t ∈ rows) → window rows t ≡ At (all t m).L
+      found : (t : Task) (m : t ∈ rows) → window rows t ≡ Some (all t m).L
       found t m = (window_is rows t (all t m).L).1 (all t m).window
 
       within : (t : Task) → t ∈ rows → last_bound rows t ≤ t.deadline

@@ -10,7 +10,7 @@ use mathlib.Core.List.{List}
 use Rattle.lists.specs.Lists.{◌∈◌}
 use Rattle.lists.proofs.Tests.{by_test, either}
 use Rattle.lists.proofs.Members.{all-or-one}
-use Rattle.model.specs.declared.Found.TheVariants.{At, Nothing}
+use Rattle.std.specs.Prelude.{Some, None}
 use Rattle.model.specs.Task.{Task, part, parts}
 use Rattle.model.specs.Rows.{GoodTask, GoodCore}
 use Rattle.model.specs.Least.{IsLeast, value, max_below}
@@ -66,13 +66,13 @@ module _ (rows : List Task) (core : GoodCore rows) (t : Task) (m : t ∈ rows) w
 
 -- two least solutions are the same
 one-least : (g : ℕ → ℕ) (from limit x y : ℕ) → IsLeast g from limit x → IsLeast g from limit y → x ≡ y
-one-least g from limit x y a b = let e = says_same g from limit (At x) (At y) a b in cc
+one-least g from limit x y a b = let e = says_same g from limit (Some x) (Some y) a b in cc
 
 module _ (rows : List Task) (t : Task) where
   -- the window found is the least positive length
-  pub window_is : (L : ℕ) → (window rows t ≡ At L) ↔ IsWindow rows t L
+  pub window_is : (L : ℕ) → (window rows t ≡ Some L) ↔ IsWindow rows t L
   unfolding window demand before
-  window_is L = (λ e. least_at (demand rows t) 1 limit e, λ l. least_is (demand rows t) 1 limit (At L) l)
+  window_is L = (λ e. least_at (demand rows t) 1 limit e, λ l. least_is (demand rows t) 1 limit (Some L) l)
 
   -- a part of a job ends once
   ends_once : GoodTask t → (r j f g : ℕ) → EndsAt rows t r j f → EndsAt rows t r j g → f ≡ g
@@ -111,7 +111,7 @@ largest_some h (suc (suc n)) p =
     ⊎_elim (λ less. (suc n, omega arith, omega (arith, r.2))) (λ more. (r.0, omega (arith, r.1), omega (arith, r.2)))
     (either (h r.0) (h (suc n)))
 
-module _ (rows : List Task) (core : GoodCore rows) (t : Task) (m : t ∈ rows) (L : ℕ) (w : window rows t ≡ At L) (r : ℕ)
+module _ (rows : List Task) (core : GoodCore rows) (t : Task) (m : t ∈ rows) (L : ℕ) (w : window rows t ≡ Some L) (r : ℕ)
     (hr : r < parts t) where
   -- as many jobs as are looked at
   all-jobs : jobs rows t ≡ before t L
@@ -172,7 +172,7 @@ equations rows core t m =
     record {
       blocks = λ b. (λ e. subst (IsBlocking rows t) e (blocking_says rows t), one-blocking rows core t m b);
       found = window_is rows t;
-      none = (λ e. least_none (demand rows t) 1 limit e, λ n. least_is (demand rows t) 1 limit Nothing n);
+      none = (λ e. least_none (demand rows t) 1 limit e, λ n. least_is (demand rows t) 1 limit None n);
       bounds = λ L w r h b. (λ e. subst (IsBound rows t L r) e (is L w r h), λ i. one-bound rows t (core.good t m) L r _ b (is L w r h) i);
     }
   where

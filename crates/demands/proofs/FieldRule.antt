@@ -11,7 +11,8 @@ use Rattle.lists.proofs.Tests.{by_test, never, either}
 use Rattle.table.specs.declared.Verdict.{Verdict}
 use Rattle.table.specs.declared.Verdict.TheVariants as C
 use Rattle.table.specs.Verdicts.{good, ◌or_else◌}
-use Rattle.table.specs.Fields.{Wanted, judge}
+use Rattle.table.specs.declared.Wanted.{Wanted}
+use Rattle.table.specs.Fields.{judge}
 use Rattle.fields.specs.Stepping.{Step, stop, go, ◌then◌, unless}
 use Rattle.fields.proofs.Taken.{stopped_not, then_read}
 use Rattle.fields.specs.declared.Ending.{Ending}

@@ -10,7 +10,7 @@ use Rattle.model.specs.Task.{Task}
 use Rattle.table.specs.declared.Verdict.{Verdict}
 use Rattle.table.specs.declared.Verdict.TheVariants as C
 use Rattle.table.specs.Verdicts.{code_of, good}
-use Rattle.table.specs.Fields.{Wanted}
+use Rattle.table.specs.declared.Wanted.{Wanted}
 use Rattle.table.specs.Memory.{rows_of}
 use Rattle.table.proofs.ReadingCodes.{RefusedReading, refused-not_0}
 use Rattle.fields.specs.Stepping.{stop, go, ◌then◌, unless}

@@ -14,7 +14,7 @@ use Rattle.lists.proofs.PadStores.{pad-length}
 use Rattle.model.specs.Task.{Task}
 use Rattle.model.specs.Rows.{GoodTask, GoodCore}
 use Rattle.model.specs.Bounds.{on_core}
-use Rattle.table.specs.declared.Rule.TheVariants as R
+use Rattle.table.specs.Rules as R
 use Rattle.table.specs.Memory.{row_of, rows_of, zero_row, all_times, stored}
 use Rattle.table.specs.Clash.{breaks, clash_of}
 use Rattle.table.proofs.Codes.{first_good}

@@ -14,8 +14,8 @@ use Rattle.numbers.specs.Numbers.{Bytes, encode_in, encode, encode_all}
 use Rattle.model.specs.Task.{Task, parts, part}
 use Rattle.model.specs.Rows.{Within, GoodTask}
 use Rattle.table.specs.declared.Row.{Row}
-use Rattle.table.specs.declared.Rule.{Rule}
-use Rattle.table.specs.declared.Rule.TheVariants as R
+use Rattle.table.specs.Rules.{Rule}
+use Rattle.table.specs.Rules as R
 use Rattle.table.specs.declared.Verdict.{Verdict}
 use Rattle.table.specs.Verdicts.{code_of}
 use Rattle.table.specs.Fields.{field, part_count, head, time}

@@ -9,10 +9,11 @@ use lib.ListN.{length}
 use Rattle.lists.specs.Lists.{◌∈◌}
 use Rattle.lists.proofs.Tests.{either}
 use Rattle.table.specs.declared.Verdict.{Verdict}
-use Rattle.table.specs.Fields.{Wanted}
+use Rattle.table.specs.declared.Wanted.{Wanted}
 use Rattle.fields.specs.Stepping.{stop, go, ◌then◌, field_at, fields_at}
 use Rattle.fields.proofs.Taken as taken
-use Rattle.chains.specs.Lists.{ChainStep, step_count, steps_wanted, steps_from, steps_at, list_numbers, decode_list}
+use Rattle.chains.specs.declared.ChainStep.{ChainStep}
+use Rattle.chains.specs.Lists.{step_count, steps_wanted, steps_from, steps_at, list_numbers, decode_list}
 use Rattle.chains.proofs.Steps.{fine_long, part-from_1, steps_of}
 use Rattle.demands.specs.Reached.{Stands, Along}
 use Rattle.demands.specs.Chains.{ListReached, ListWants, WholeList, ListRule}

@@ -8,13 +8,14 @@ use mathlib.Core.Bool.{false}
 use mathlib.Core.List.{List}
 use Rattle.lists.proofs.Tests.{either}
 use Rattle.numbers.specs.Numbers.{number_at}
-use Rattle.numbers.specs.declared.Number.{Number}
-use Rattle.numbers.specs.declared.Number.TheVariants as N
+use Rattle.numbers.specs.Numbers.{Number}
+use Rattle.numbers.specs.Numbers as N
 use Rattle.model.specs.Rows.{Within}
 use Rattle.table.specs.declared.Verdict.{Verdict}
 use Rattle.table.specs.declared.Verdict.TheVariants as C
 use Rattle.table.specs.Verdicts.{good}
-use Rattle.table.specs.Fields.{Wanted, judge}
+use Rattle.table.specs.declared.Wanted.{Wanted}
+use Rattle.table.specs.Fields.{judge}
 use Rattle.fields.specs.Stepping.{stop, unless, asked, field_at}
 use Rattle.fields.proofs.Taken.{stopped_not}
 use Rattle.table.proofs.ReadingCodes.{RefusedReading}

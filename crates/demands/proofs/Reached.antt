@@ -7,7 +7,8 @@ use Rattle.model.specs.Task.{Task}
 use Rattle.table.specs.declared.Verdict.{Verdict}
 use Rattle.table.specs.declared.Verdict.TheVariants.{Good}
 use Rattle.table.specs.Verdicts.{good}
-use Rattle.table.specs.Fields.{Wanted, field, judge}
+use Rattle.table.specs.declared.Wanted.{Wanted}
+use Rattle.table.specs.Fields.{field, judge}
 use Rattle.table.proofs.Fine.{Fine, fine_good}
 use Rattle.fields.specs.Stepping.{stop, go, ◌then◌, unless, asked, field_at, fields_at, row_by}
 use Rattle.files.specs.Reading.{row_at, rows_at, end_at, decode}

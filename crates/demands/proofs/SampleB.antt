@@ -3,7 +3,7 @@ use native.Mathlib.Omega.{arith}
 use mathlib.Core.Path.{◌≡◌, refl}
 use mathlib.Core.List.{List, [], ◌∷◌}
 use lib.Dec.{lit<}
-use Rattle.model.specs.declared.Found.TheVariants.{At, Nothing}
+use Rattle.std.specs.Prelude.{Some, None}
 use Rattle.model.specs.Task.{Task}
 use Rattle.model.specs.Bounds.{limit, window, core_verdict, no_window}
 use Rattle.model.proofs.Least.{least_never}
@@ -33,12 +33,12 @@ abbrev pub rows2 : List Task
 rows2 = task41 ∷ task43 ∷ []
 
 -- in a window of n periods of 12, n jobs of 15 ask for more
-none41 : window rows2 task41 ≡ Nothing
+none41 : window rows2 task41 ≡ None
 unfolding sides window
 none41 = least_never _ 1 limit (λ z a. omega (arith, before_pos task41 (lit< tt) z a, before_covers task41 (lit< tt) z))
 
 -- the higher row has one
-window43 : window rows2 task43 ≡ At 1
+window43 : window rows2 task43 ≡ Some 1
 unfolding bounds-found
 window43 = refl
 

@@ -12,7 +12,8 @@ use Rattle.table.specs.declared.Table.{Table}
 use Rattle.table.specs.declared.Verdict.{Verdict}
 use Rattle.table.specs.declared.Verdict.TheVariants as C
 use Rattle.table.specs.Verdicts.{code_of, good, ◌or_else◌}
-use Rattle.table.specs.Fields.{Wanted, head, fields_of, judge, fault_in}
+use Rattle.table.specs.declared.Wanted.{Wanted}
+use Rattle.table.specs.Fields.{head, fields_of, judge, fault_in}
 use Rattle.table.specs.Memory.{used_rows}
 use Rattle.table.specs.Faults.{row_fault, rows_fault, fault_of}
 use Rattle.table.proofs.ReadingCodes.{RefusedReading}

@@ -11,7 +11,8 @@ use Rattle.lists.proofs.Tests.{either}
 use Rattle.model.specs.Task.{Task}
 use Rattle.table.specs.declared.Verdict.{Verdict}
 use Rattle.table.specs.declared.Verdict.TheVariants.{OutOfRange}
-use Rattle.table.specs.Fields.{Wanted, time, row_from}
+use Rattle.table.specs.declared.Wanted.{Wanted}
+use Rattle.table.specs.Fields.{time, row_from}
 use Rattle.table.specs.Memory.{task_of, all_times, rows_of}
 use Rattle.table.specs.Clash.{clash_of}
 use Rattle.fields.specs.Stepping.{Step, stop, ◌then◌, unless, fields_at, row_by}

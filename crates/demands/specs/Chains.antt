@@ -9,12 +9,13 @@ use Rattle.machine.specs.Passing.{AllAllowed, Recurs, PeriodicRecurs, HasPassed,
 use Rattle.table.specs.declared.Verdict.{Verdict}
 use Rattle.table.specs.declared.Verdict.TheVariants as C
 use Rattle.table.specs.Verdicts.{code_of}
-use Rattle.table.specs.Fields.{Wanted}
+use Rattle.table.specs.declared.Wanted.{Wanted}
 use Rattle.analysis.specs.Analysis.{needed}
 use Rattle.chains.specs.declared.About.{About}
 use Rattle.chains.specs.declared.About.TheVariants as A
 use Rattle.chains.specs.declared.Delayed.{Delayed}
-use Rattle.chains.specs.Lists.{ChainStep, step_count, steps_wanted, steps_from}
+use Rattle.chains.specs.declared.ChainStep.{ChainStep}
+use Rattle.chains.specs.Lists.{step_count, steps_wanted, steps_from}
 use Rattle.chains.specs.Chains.{delay_answer}
 use Rattle.chains.specs.Claims.{ListOfTheFront, TableOfTheFront}
 use Rattle.demands.specs.Reached.{Stands, Along}

@@ -2,7 +2,7 @@
 -- numbered by j from 0: k − 1.
 use Rattle.std.specs.Prelude.{ℕ, suc, ◌+◌, ◌-◌, ◌*◌, ◌≤◌, ◌<◌, ◌≡◌, ◌↔◌, List, ◌∷◌}
 use Rattle.lists.specs.Lists.{◌∈◌, keep, total}
-use Rattle.model.specs.declared.Found.TheVariants.{At, Nothing}
+use Rattle.std.specs.Prelude.{Some, None}
 use Rattle.model.specs.Task.{Task, part, parts, parts_before, cost}
 use Rattle.model.specs.Least.{IsLeast, NoLeast}
 use Rattle.model.specs.Bounds.{limit, preemptive, up, down, higher, blocking, window, bound}
@@ -65,8 +65,8 @@ module _ (rows : List Task) (t : Task) where
   -- the model's B, window and bounds, which the codes 11 and 12 speak of, are these
   pub record Equations : Type 0 where
     pub blocks : (b : ℕ) → (blocking rows t ≡ b) ↔ IsBlocking b
-    pub found : (L : ℕ) → (window rows t ≡ At L) ↔ IsWindow L
-    pub none : (window rows t ≡ Nothing) ↔ NoLeast window_side 1 limit
+    pub found : (L : ℕ) → (window rows t ≡ Some L) ↔ IsWindow L
+    pub none : (window rows t ≡ None) ↔ NoLeast window_side 1 limit
     pub bounds : (L : ℕ) → IsWindow L → (r : ℕ) → r < parts t → (b : ℕ) → (bound rows t r ≡ b) ↔ IsBound L r b
 
   -- the row has a window up to the limit, and the bound of its last part is within its deadline

@@ -9,10 +9,11 @@
 use Rattle.std.specs.Prelude.{ℕ, suc, ◌≤◌, ◌<◌, ◌≡◌, ◌⊎◌, List, [], ◌∷◌, ◌++◌, length, get_or, replicate}
 use Rattle.lists.specs.Lists.{Place}
 use Rattle.numbers.specs.Numbers.{number_at}
-use Rattle.numbers.specs.declared.Number.TheVariants as N
+use Rattle.numbers.specs.Numbers as N
 use Rattle.model.specs.Task.{Task}
 use Rattle.model.specs.Rows.{Within}
-use Rattle.table.specs.Fields.{Wanted, field, head, time, row_from}
+use Rattle.table.specs.declared.Wanted.{Wanted}
+use Rattle.table.specs.Fields.{field, head, time, row_from}
 use Rattle.table.specs.Memory.{task_of, all_times}
 
 -- so many bytes stand in front and have their high bit set: a number goes on behind them

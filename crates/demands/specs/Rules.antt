@@ -2,17 +2,17 @@
 use Rattle.std.specs.Prelude.{ℕ, ◌≤◌, ◌<◌, ◌≡◌, ◌⊎◌, List, length, drop}
 use Rattle.lists.specs.Lists.{Place}
 use Rattle.numbers.specs.Numbers.{number_at}
-use Rattle.numbers.specs.declared.Number.TheVariants as N
+use Rattle.numbers.specs.Numbers as N
 use Rattle.model.specs.Task.{Task}
 use Rattle.model.specs.Rows.{Within}
 use Rattle.model.specs.Bounds.{on_core}
 use Rattle.model.specs.Verdict.{Passes, NoWindow, Misses}
 use Rattle.table.specs.declared.Row.{Row}
-use Rattle.table.specs.declared.Rule.{Rule}
-use Rattle.table.specs.declared.Rule.TheVariants as R
+use Rattle.table.specs.Rules.{Rule}
+use Rattle.table.specs.Rules as R
 use Rattle.table.specs.declared.Verdict.{Verdict}
 use Rattle.table.specs.declared.Verdict.TheVariants as C
-use Rattle.table.specs.Fields.{Wanted}
+use Rattle.table.specs.declared.Wanted.{Wanted}
 use Rattle.table.specs.Memory.{rows_of}
 use Rattle.analysis.specs.Analysis.{needed}
 use Rattle.demands.specs.Reached.{CutOff, IllFormed, Rows, Wants}

@@ -2,7 +2,7 @@
 -- bounds, those on bytes, and Set A's answer.
 use Rattle.std.specs.Prelude.{ℕ, ◌≡◌, List, [], ◌∷◌}
 use Rattle.numbers.specs.Numbers.{number_at}
-use Rattle.numbers.specs.declared.Number.TheVariants as N
+use Rattle.numbers.specs.Numbers as N
 use Rattle.model.specs.BoundSamples.{set_a, one, full}
 use Rattle.model.specs.BoundSamples as Model
 use Rattle.table.specs.declared.Verdict.TheVariants as C

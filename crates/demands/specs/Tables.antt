@@ -8,7 +8,8 @@ use Rattle.table.specs.declared.Table.{Table}
 use Rattle.table.specs.declared.Verdict.{Verdict}
 use Rattle.table.specs.declared.Verdict.TheVariants as C
 use Rattle.table.specs.Verdicts.{code_of}
-use Rattle.table.specs.Fields.{Wanted, head, time, fields_of}
+use Rattle.table.specs.declared.Wanted.{Wanted}
+use Rattle.table.specs.Fields.{head, time, fields_of}
 use Rattle.table.specs.Memory.{used_rows, tasks_of}
 use Rattle.table.specs.declared.Written.{Written}
 use Rattle.files.specs.Writing.{file_of, Wrote}

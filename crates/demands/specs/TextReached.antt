@@ -2,7 +2,8 @@
 use Rattle.std.specs.Prelude.{ℕ, ◌+◌, ◌-◌, ◌≤◌, ◌<◌, ◌≡◌, Bool, true, false, List, [], ◌∷◌, ◌++◌, length, drop, replicate}
 use Rattle.text.specs.Text.{decimal}
 use Rattle.model.specs.Task.{Task}
-use Rattle.table.specs.Fields.{Wanted, time, row_from}
+use Rattle.table.specs.declared.Wanted.{Wanted}
+use Rattle.table.specs.Fields.{time, row_from}
 use Rattle.table.specs.Memory.{task_of}
 use Rattle.fields.specs.declared.Ending.{Ending}
 use Rattle.fields.specs.declared.Ending.TheVariants.{Comma, Line, Text}

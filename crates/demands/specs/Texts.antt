@@ -7,7 +7,7 @@ use Rattle.table.specs.declared.Verdict.{Verdict}
 use Rattle.table.specs.declared.Verdict.TheVariants as C
 use Rattle.table.specs.declared.Written.{Written}
 use Rattle.table.specs.Verdicts.{code_of}
-use Rattle.table.specs.Fields.{Wanted}
+use Rattle.table.specs.declared.Wanted.{Wanted}
 use Rattle.table.specs.Memory.{stored, rows_of}
 use Rattle.fields.specs.declared.Ending.{Ending}
 use Rattle.comma.specs.Reading.{read_text}

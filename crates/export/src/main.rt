@@ -5,17 +5,15 @@ use tell::{STDIN_FILENO, STDOUT_FILENO};
 
 // Reads a table file on standard input, of which 5,124 bytes are enough to judge it, and writes its lines; of a refused file it writes
 // only a line on standard error.
-fn main() {
+fn main(rt: HostRuntime) {
     let mut bytes = [0u8; 5124];
     let n = io::read_full(STDIN_FILENO, &mut bytes);
-    let read = files::read(&bytes[..n]);
-    let verdict = read.verdict;
-    if table::code_of(verdict) != 0 {
-        tell::refusal(b"file", verdict);
-        return;
+    match files::load(&bytes[..n]) {
+        Ok(good) => {
+            let mut out = [0u8; 11520];
+            let wrote = comma::write(&good.table, &mut out);
+            io::write_all(STDOUT_FILENO, &out[..wrote.count]);
+        }
+        Err(refusal) => tell::refusal(&rt, "file", refusal),
     }
-    let mut out = [0u8; 11520];
-    let wrote = comma::write(read.table, &mut out);
-    let count = wrote.count;
-    io::write_all(STDOUT_FILENO, &out[..count]);
 }

@@ -1,44 +1,17 @@
 -- Digits met one by one: the digits in front of a place of a text. Assumes nothing.
-use Prim.Native.Nat.{ℕ, ◌+◌, ◌-◌, ◌≤◌, ◌<◌}
+use Prim.Native.Nat.{ℕ, ◌+◌, ◌<◌}
 use native.Mathlib.Numerals.{add-one}
 use native.Mathlib.Omega.{arith}
-use borrow.Author.Tests.{le-ltb}
 use mathlib.Core.Path.{◌≡◌, refl, sym, ap, ◌∙◌}
 use mathlib.Core.Logic.{⊎_elim}
 use mathlib.Core.Bool.{true, false}
 use mathlib.Core.List.{List, [], ◌∷◌}
 use lib.ListN.{length, get_or, drop, drop_of_length-le}
 use lib.Seq.{drop-cons}
-use lib.Dec.{ltb}
 use Rattle.lists.proofs.Tests.{either, by_test}
 use Rattle.lists.proofs.Drops.{some_within}
 use Rattle.text.specs.Numerals.{is_digit, digits_in}
 use Rattle.text.proofs.Numerals.{digit_says}
-use Rattle.fields.specs.Promises.{digit_or}
-
--- ---- a byte
-
--- below 48 none is
-pub below_digits : (b : ℕ) → b < 48 → is_digit b ≡ false
-unfolding is_digit
-below_digits b h = rw (le-ltb 47 b (omega arith))
-
--- nor from 58 on
-pub above_digits : (b : ℕ) → 58 ≤ b → is_digit b ≡ false
-unfolding is_digit
-above_digits b h = rw (le-ltb b 58 h) (by_test (ltb 47 b) (λ e. rw e) (λ e. rw e))
-
--- what is below 10 is the digit of a byte
-pub digit-of : (b : ℕ) → digit_or b < 10 → (is_digit b ≡ true) × (digit_or b ≡ b - 48)
-unfolding digit_or
-digit-of b h = by_test (is_digit b) (λ e. (e, rw e)) (λ e. absurd (omega (arith, rw e at h)))
-
--- and 10 says that it is none
-pub no_digit_lem : (b : ℕ) → 10 ≤ digit_or b → is_digit b ≡ false
-unfolding digit_or
-no_digit_lem b h = by_test (is_digit b) (λ e. absurd (omega (arith, digit_says b e, rw e at h))) (λ e. e)
-
--- ---- the digits in front of a place
 
 module _ (s : List ℕ) (p : ℕ) where
   -- a digit stands within the text

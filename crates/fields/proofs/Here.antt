@@ -10,7 +10,7 @@ use Rattle.lists.proofs.Drops.{next_here}
 use Rattle.numbers.specs.Numbers.{encode}
 use Rattle.numbers.proofs.RoundTrip.{read_here}
 use Rattle.table.specs.Verdicts.{good}
-use Rattle.table.specs.Fields.{Wanted}
+use Rattle.table.specs.declared.Wanted.{Wanted}
 use Rattle.table.proofs.Fine.{Fine, AllFine, fine_good}
 use Rattle.fields.specs.Stepping.{Step, go, ◌then◌, unless, asked, field_at, fields_at}
 use Rattle.fields.proofs.Sizes.{Four}

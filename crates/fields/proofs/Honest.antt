@@ -7,12 +7,13 @@ use lib.ListN.{length}
 use Rattle.lists.specs.Lists.{pick}
 use Rattle.lists.proofs.Tests.{by_test, never}
 use Rattle.numbers.specs.Numbers.{number_at}
-use Rattle.numbers.specs.declared.Number.{Number}
-use Rattle.numbers.specs.declared.Number.TheVariants as N
+use Rattle.numbers.specs.Numbers.{Number}
+use Rattle.numbers.specs.Numbers as N
 use Rattle.table.specs.declared.Verdict.{Verdict}
 use Rattle.table.specs.declared.Verdict.TheVariants.{EndsEarly, Malformed}
 use Rattle.table.specs.Verdicts.{code_of, good}
-use Rattle.table.specs.Fields.{Wanted, head, row_from, judge}
+use Rattle.table.specs.declared.Wanted.{Wanted}
+use Rattle.table.specs.Fields.{head, row_from, judge}
 use Rattle.table.proofs.Codes.{is_good}
 use Rattle.fields.specs.Stepping.{Step, stop, go, ◌then◌, unless, asked, field_at, fields_at, row_by}
 

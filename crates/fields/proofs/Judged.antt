@@ -13,11 +13,11 @@ use Rattle.lists.specs.Lists.{total}
 use Rattle.lists.proofs.Fronts.{drop-front}
 use Rattle.lists.proofs.Tests.{either}
 use Rattle.numbers.specs.Numbers.{Bytes, after, groups, number_at}
-use Rattle.numbers.specs.declared.Number.{Number}
-use Rattle.numbers.specs.declared.Number.TheVariants as N
+use Rattle.numbers.specs.Numbers.{Number}
+use Rattle.numbers.specs.Numbers as N
 use Rattle.numbers.proofs.Laws.{groups-front, groups_enough, encode_some}
 use Rattle.numbers.proofs.Sizes.{longer}
-use Rattle.table.specs.Fields.{Wanted}
+use Rattle.table.specs.declared.Wanted.{Wanted}
 use Rattle.fields.specs.Stepping.{Step, stop, go, ◌then◌, asked, field_at, fields_at}
 use Rattle.fields.proofs.Sizes.{bytes_of, short}
 use Rattle.fields.proofs.Taken.{field-read, in_file, taken_all}

@@ -10,7 +10,8 @@ pub mod Near
 pub mod Here
 pub mod Honest
 pub mod Digits
-pub mod Scanned
+pub mod Numbered
+pub mod Decimal
 pub mod Valued
 pub mod FieldSteps
 pub mod Below

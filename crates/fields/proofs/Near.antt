@@ -9,14 +9,15 @@ use lib.Dec.{ltb}
 use Rattle.lists.specs.Lists.{pick}
 use Rattle.lists.proofs.Tests.{by_test}
 use Rattle.numbers.specs.Numbers.{Bytes, encode, number_at}
-use Rattle.numbers.specs.declared.Number.{Number}
-use Rattle.numbers.specs.declared.Number.TheVariants as N
+use Rattle.numbers.specs.Numbers.{Number}
+use Rattle.numbers.specs.Numbers as N
 use Rattle.numbers.proofs.Laws.{encode_some}
 use Rattle.numbers.proofs.RoundTrip.{stands}
 use Rattle.table.specs.declared.Verdict.{Verdict}
 use Rattle.table.specs.declared.Verdict.TheVariants.{Good, OutOfRange, TooManyTimes}
 use Rattle.table.specs.Verdicts.{number_of, good, reading}
-use Rattle.table.specs.Fields.{Wanted, judge}
+use Rattle.table.specs.declared.Wanted.{Wanted}
+use Rattle.table.specs.Fields.{judge}
 use Rattle.table.proofs.Codes.{good-code}
 use Rattle.table.proofs.Fine.{good_fine}
 use Rattle.table.proofs.ReadingCodes.{RefusedReading, judge-reading}

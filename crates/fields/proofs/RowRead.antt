@@ -1,52 +1,51 @@
 -- A row read, its fields and then its times, by any way to read them: where reading stops, and what was read. Assumes nothing.
 use Prim.Native.Nat.{ℕ, ◌≤◌}
-use mathlib.Core.Path.{◌≡◌, ap, ◌∙◌}
+use mathlib.Core.Path.{◌≡◌, ◌∙◌}
 use mathlib.Core.List.{List, [], ◌++◌}
 use lib.ListN.{length, replicate, length-replicate}
+use Rattle.std.specs.Prelude.{Ok, Err}
 use Rattle.lists.specs.Lists.{each}
 use Rattle.model.specs.Task.{Task}
 use Rattle.table.specs.declared.Row.{Row}
 use Rattle.table.specs.declared.Verdict.{Verdict}
-use Rattle.table.specs.Fields.{Wanted, head, time, row_from, fields_of}
+use Rattle.table.specs.declared.Wanted.{Wanted}
+use Rattle.table.specs.Fields.{head, time, row_from, fields_of}
 use Rattle.table.specs.Memory.{row_of, task_of}
 use Rattle.table.proofs.Fine.{AllFine}
 use Rattle.table.proofs.Seven.{all-length, seven}
 use Rattle.table.proofs.GoodTasks.{FineTask}
 use Rattle.fields.specs.Stepping.{Step, stop, go, ◌then◌, fields_at, row_by}
 use Rattle.fields.proofs.Taken.{Reader, Between, both_between, then_read, taken_all, head_read}
-use Rattle.fields.proofs.HeadRead.{GotHead}
+use Rattle.fields.specs.Promises.{as_row}
+use Rattle.fields.proofs.HeadRead.{got_head, refused-head}
 
 -- ---- step by step
 
-module _ (one : Wanted → ℕ → Step ℕ) (times : ℕ → ℕ → Step (List ℕ)) (used p : ℕ) where
+module _ (one : Wanted → ℕ → Step ℕ) (times : ℕ → ℕ → Step (List ℕ)) (used at : ℕ) where
   -- its fields are refused
-  pub row-fields_stop : (v : Verdict) → fields_at one (head used) [] p ≡ stop v → row_by one times used p ≡ stop v
+  pub row-fields_stop : (v : Verdict) → Err v ≡ as_row (fields_at one (head used) [] at) → row_by one times used at ≡ stop v
   unfolding row_by ◌then◌
-  row-fields_stop v e = rw e
+  row-fields_stop v e = rw (refused-head _ v e)
 
-  module _ {row : Row} {n : ℕ} (g : GotHead (fields_at one (head used) [] p) row n) where
-    -- what follows the fields, as the row has them
-    after : Row → Step Task
-    after r = times r.parts n then λ times at. go (task_of r times) at
-
+  module _ (row : Row) (n : ℕ) (e : Ok (record { value = row; next = n }) ≡ as_row (fields_at one (head used) [] at)) where
     -- its times follow its fields
-    first : row_by one times used p ≡ after (row_from g.fields)
-    unfolding row_by after ◌then◌
-    first = rw g.first
+    row_step : row_by one times used at ≡ (times row.parts n then λ ts m. go (task_of row ts) m)
+    unfolding row_by ◌then◌
+    row_step = let g = got_head _ _ e in of g.fields g.first g.is
+      where
+        of : (fields : List ℕ) → fields_at one (head used) [] at ≡ go fields n → row_from fields ≡ row
+            → row_by one times used at ≡ (times row.parts n then λ ts m. go (task_of row ts) m)
+        of fields first is = rw (first, ← is)
 
-    -- as the row has them
-    row_step : row_by one times used p ≡ after row
-    row_step = first ∙ ap after g.is
+    -- they are refused
+    pub row-times_stop : (v : Verdict) → times row.parts n ≡ stop v → row_by one times used at ≡ stop v
+    unfolding ◌then◌
+    row-times_stop v f = row_step ∙ rw f
 
-    -- its times are read
-    pub row_more : (ts : List ℕ) (q : ℕ) → times row.parts n ≡ go ts q → row_by one times used p ≡ go (task_of row ts) q
-    unfolding after ◌then◌
-    row_more ts q e = row_step ∙ rw e
-
-    -- its times are refused
-    pub row-times_stop : (v : Verdict) → times row.parts n ≡ stop v → row_by one times used p ≡ stop v
-    unfolding after ◌then◌
-    row-times_stop v e = row_step ∙ rw e
+    -- they are read
+    pub row_more : (ts : List ℕ) (m : ℕ) → times row.parts n ≡ go ts m → row_by one times used at ≡ go (task_of row ts) m
+    unfolding ◌then◌
+    row_more ts m f = row_step ∙ rw f
 
 -- ---- what was read
 

@@ -11,7 +11,8 @@ use Rattle.lists.proofs.Totals.{total_snoc}
 use Rattle.numbers.specs.Numbers.{encode_in, encode, encode_all}
 use Rattle.numbers.proofs.Laws.{length-one}
 use Rattle.numbers.proofs.Sizes.{longer}
-use Rattle.table.specs.Fields.{Wanted, head, time}
+use Rattle.table.specs.declared.Wanted.{Wanted}
+use Rattle.table.specs.Fields.{head, time}
 use Rattle.table.proofs.Fine.{AllFine}
 use Rattle.fields.specs.Stepping.{Step, go, fields_at}
 use Rattle.fields.proofs.Taken.{then_read}

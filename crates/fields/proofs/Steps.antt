@@ -1,39 +1,44 @@
 -- Laws of reading step by step, for the proofs of the code that reads. Assumes nothing.
 use Prim.Native.Nat.{ℕ}
-use native.Mathlib.Omega.{arith}
-use mathlib.Core.Path.{◌≡◌, refl, sym, ◌∙◌}
+use mathlib.Core.Path.{◌≡◌, refl}
 use mathlib.Core.List.{List, [], ◌∷◌, ◌++◌, append_assoc}
+use Rattle.std.specs.Prelude.{Ok, Err}
+use Rattle.numbers.specs.declared.Read.{Read}
 use Rattle.table.specs.declared.Verdict.{Verdict}
-use Rattle.table.specs.Verdicts.{code_of}
-use Rattle.table.specs.Fields.{Wanted}
-use Rattle.table.proofs.Codes.{is_good, is_fault}
-use Rattle.fields.specs.declared.Field.TheVariants as F
+use Rattle.table.specs.Verdicts.{judged}
+use Rattle.table.specs.declared.Wanted.{Wanted}
+use Rattle.table.proofs.Codes.{passed, refused}
 use Rattle.fields.specs.Stepping.{Step, stop, go, ◌then◌, unless, fields_at}
-use Rattle.fields.specs.Promises.{as_field}
+use Rattle.fields.specs.Promises.{as_read}
 
--- where the verdict's code k was asked for: stop, or go on
-module _ {A : Type 0} {v x : Verdict} {k : ℕ} (same : v ≡ x) (code : k ≡ code_of v) (a : A) (n : ℕ) where
-  -- stop
-  pub unless-fault : (k ≡ 0 → ⊥) → unless x a n ≡ stop v
+-- ---- what the code's answers say of the steps
+
+-- where something is read
+pub got_read : {A : Type 0} (x : Step A) (r : Read A) → Ok r ≡ as_read x → x ≡ go r.value r.next
+got_read (stop w) r e = absurd cc
+got_read (go a n) r e = cc
+
+-- where it is refused
+pub refused-read : {A : Type 0} (x : Step A) (v : Verdict) → Err v ≡ as_read x → x ≡ stop v
+refused-read (stop w) v e = cc
+refused-read (go a n) v e = absurd cc
+
+-- ---- what a check's answer leaves of a step
+module _ {A : Type 0} (v : Verdict) (a : A) (n : ℕ) where
+  -- a refusal stops it
+  pub unless_refused : {w : Verdict} → Err w ≡ judged v → unless v a n ≡ stop w
   unfolding unless
-  unless-fault h = rw (← same, is_fault v (λ e. h (code ∙ e)))
+  unless_refused e = let f = refused v e in rw (f.0, f.1)
 
-  -- go on
-  pub unless-good : k ≡ 0 → unless x a n ≡ go a n
+  -- else it goes on
+  pub unless_passed : {u : Unit {0}} → Ok u ≡ judged v → unless v a n ≡ go a n
   unfolding unless
-  unless-good e = rw (← same, is_good v (sym code ∙ e))
+  unless_passed e = rw (passed v e)
 
--- what the code's answers say of the steps
-pub got_field : (x : Step ℕ) (v n : ℕ) → F.Got v n ≡ as_field x → x ≡ go v n
-got_field (stop w) v n e = let z : ◌≡◌ {A = ℕ} 0 1 = cc in absurd (omega arith)
-got_field (go w m) v n e = let p : w ≡ v = cc in let q : m ≡ n = cc in rw (p, q)
+-- what the code needs
+pub ruleset by_verdict = (unless_refused, unless_passed)
 
--- and where it is refused
-pub refused-field : (x : Step ℕ) (v : Verdict) → F.Refused v ≡ as_field x → x ≡ stop v
-refused-field (stop w) v e = let p : w ≡ v = cc in rw p
-refused-field (go w m) v e = let z : ◌≡◌ {A = ℕ} 0 1 = cc in absurd (omega arith)
-
--- numbers one after another, each read as `one` says
+-- ---- numbers one after another, each read as `one` says
 module _ (one : Wanted → ℕ → Step ℕ) where
   -- the first numbers wanted, and behind them the others; `front` was read before
   pub fields-append : (ws vs : List Wanted) (front done : List ℕ) (at : ℕ)

@@ -10,12 +10,13 @@ use Rattle.lists.specs.Lists.{each}
 use Rattle.lists.proofs.Tests.{by_test}
 use Rattle.lists.proofs.Drops.{next_here}
 use Rattle.numbers.specs.Numbers.{Bytes, number_at, encode}
-use Rattle.numbers.specs.declared.Number.{Number}
-use Rattle.numbers.specs.declared.Number.TheVariants as N
+use Rattle.numbers.specs.Numbers.{Number}
+use Rattle.numbers.specs.Numbers as N
 use Rattle.numbers.proofs.RoundTrip.{stands}
 use Rattle.table.specs.declared.Verdict.{Verdict}
 use Rattle.table.specs.Verdicts.{code_of, good}
-use Rattle.table.specs.Fields.{Wanted, head, row_from, judge}
+use Rattle.table.specs.declared.Wanted.{Wanted}
+use Rattle.table.specs.Fields.{head, row_from, judge}
 use Rattle.table.proofs.Codes.{good-code}
 use Rattle.table.proofs.Fine.{Fine, good_fine, AllFine}
 use Rattle.table.proofs.Heads.{GoodHead, good-head}

@@ -7,20 +7,21 @@ use mathlib.Core.Bool.{true}
 use mathlib.Core.List.{List, [], ◌∷◌, ◌++◌}
 use lib.ListN.{length, get_or, take, drop, set, replicate, length-replicate, drop_of_length-le}
 use lib.Seq.{set_at, drop-cons, length-take-le}
+use Rattle.std.specs.Prelude.{Ok, Err}
+use Rattle.std.proofs.lemmas.List.{take-replicate}
 use Rattle.table.specs.declared.Verdict.{Verdict}
-use Rattle.table.specs.Fields.{Wanted, time, wanted, LowsHighs}
-use Rattle.table.proofs.FieldRanges.{wanted_same}
+use Rattle.table.specs.declared.Wanted.{Wanted}
+use Rattle.table.specs.Fields.{time}
 use Rattle.table.proofs.Fine.{Fine, AllFine}
 use Rattle.table.proofs.Seven.{all-length}
-use Rattle.fields.specs.declared.Way.{Way}
-use Rattle.fields.specs.declared.Way.TheVariants.{Seven, Commas}
+use Rattle.fields.specs.Ways.{Way}
+use Rattle.fields.specs.Ways.{Seven, Commas}
 use Rattle.fields.specs.Stepping.{Step, stop, go, ◌then◌, field_at, fields_at}
 use Rattle.fields.specs.TextFields.{text_times}
 use Rattle.fields.specs.Ways.{number_by, last_by, times_by}
-use Rattle.fields.specs.Promises.{AllBelow}
-use Rattle.fields.proofs.Steps.{fields-append}
+use Rattle.fields.specs.Promises.{as_read}
+use Rattle.fields.proofs.Steps.{got_read, refused-read, fields-append}
 use Rattle.fields.proofs.Taken.{then_read, field-read, taken_all}
-use Rattle.fields.proofs.Below.{times_below}
 use Rattle.fields.proofs.Ways.{text_fine, in_way}
 
 -- ---- all but the last, then the last
@@ -53,7 +54,8 @@ last_fine Commas s at v n e = text_fine true s time at v n e
 
 -- all times but the last, then the last
 parted : Way → List ℕ → ℕ → ℕ → Step (List ℕ)
-parted way s k at = fields_at (number_by way s) (replicate (k - 1) time) [] at then λ ns p. last_by way s p then λ v n. go (ns ++ (v ∷ [])) n
+parted way s k at =
+    fields_at (number_by way s) (replicate (k - 1) time) [] at then λ ns p. last_by way s p then λ v n. go (ns ++ (v ∷ [])) n
 
 -- so times are read in either way
 times_parted : (way : Way) (s : List ℕ) (k at : ℕ) → 1 ≤ k → times_by way s k at ≡ parted way s k at
@@ -100,47 +102,40 @@ module _ (way : Way) (s : List ℕ) (k at : ℕ) (ts : List ℕ) (n : ℕ) (some
 
 -- ---- as the code reads them
 
--- the ranges that the code gives are as many as the times but the last, and below the cap
-pub ranges_fit : (out : List ℕ) → 1 ≤ length out → length out ≤ 64
-    → LowsHighs (length (take (length out - 1) out)) (take (length out - 1) (replicate 64 1))
-    (take (length out - 1) (replicate 64 16777215))
-    × AllBelow (take (length out - 1) (replicate 64 16777215)) 16777216
-ranges_fit out some few =
-    let lent : length (take (length out - 1) out) ≡ length out - 1 = length-take-le (length out - 1) out (omega arith) in
-    rw lent (times_below (length out - 1) (omega arith))
+-- the last place
+drop_last : (out : List ℕ) → 1 ≤ length out → drop (length out - 1) out ≡ get_or out (length out - 1) 0 ∷ []
+drop_last out some =
+    let past : length out ≤ suc (length out - 1) = omega arith in
+    drop-cons out (length out - 1) 0 (omega arith) ∙ ap (◌∷◌ (get_or out (length out - 1) 0)) (drop_of_length-le out past)
 
 -- the room has a place for each; the code lends all but the last
 module _ (way : Way) (s : List ℕ) (at : ℕ) (out : List ℕ) (some : 1 ≤ length out) (few : length out ≤ 64) where
-  -- those before the last, as the code gives their ranges
+  -- those before the last
   abbrev front : Step (List ℕ)
-  front = fields_at (number_by way s) (wanted (take (length out - 1) (replicate 64 1)) (take (length out - 1) (replicate 64 16777215))) [] at
+  front = fields_at (number_by way s) (take (length out - 1) (replicate 64 time)) [] at
 
-  -- the same range for each
-  same_range : front ≡ fields_at (number_by way s) (replicate (length out - 1) time) [] at
-  same_range = let h : length out - 1 ≤ 64 = omega arith in rw (wanted_same 1 16777215 (length out - 1) 64 h)
+  -- then the last
+  in_two : times_by way s (length out) at ≡ (front then λ ns p. last_by way s p then λ v n. go (ns ++ (v ∷ [])) n)
+  unfolding parted
+  in_two = let most : length out - 1 ≤ 64 = omega arith in times_parted way s (length out) at some ∙ rw take-replicate
 
   -- one of them is refused
   pub times_stop : (v : Verdict) → front ≡ stop v → times_by way s (length out) at ≡ stop v
-  unfolding parted ◌then◌
-  times_stop v e = times_parted way s (length out) at some ∙ rw (sym same_range ∙ e)
+  unfolding ◌then◌
+  times_stop v e = in_two ∙ rw e
 
   -- they are read
-  module _ {part : List ℕ} {p : ℕ} (read : front ≡ go part p) where
-    -- there are so many
-    count : length part ≡ length out - 1
-    count = all-length _ part (taken_all (in_way way s) _ at part p (sym same_range ∙ read)).fine ∙ length-replicate (length out - 1) time
-
+  module _ (part : List ℕ) (p : ℕ) (read : front ≡ go part p) where
     -- the last is refused
-    pub last_stops : (v : Verdict) → last_by way s p ≡ stop v → times_by way s (length out) at ≡ stop v
-    unfolding parted ◌then◌
-    last_stops v e = times_parted way s (length out) at some ∙ rw (sym same_range ∙ read, e)
+    pub last_stops : (v : Verdict) → Err v ≡ as_read (last_by way s p) → times_by way s (length out) at ≡ stop v
+    unfolding ◌then◌
+    last_stops v e = in_two ∙ rw (read, refused-read _ v e)
 
     -- all are read
-    pub times-read : (v n : ℕ) → last_by way s p ≡ go v n
+    pub times-read : (v n : ℕ) → Ok (record { value = v; next = n }) ≡ as_read (last_by way s p)
         → times_by way s (length out) at ≡ go (set (part ++ drop (length out - 1) out) (length out - 1) v) n
-    unfolding parted ◌then◌
+    unfolding ◌then◌
     times-read v n e =
-        let past : length out ≤ suc (length out - 1) = omega arith in
-        let place : drop (length out - 1) out ≡ get_or out (length out - 1) 0 ∷ []
-        = drop-cons out (length out - 1) 0 (omega arith) ∙ ap (◌∷◌ (get_or out (length out - 1) 0)) (drop_of_length-le out past) in
-        times_parted way s (length out) at some ∙ rw (sym same_range ∙ read, e, place, set_at part _ [] v (length out - 1) count)
+        let count : length part ≡ length out - 1
+        = all-length _ part (taken_all (in_way way s) _ at part p read).fine ∙ length-take-le _ _ (omega arith) in
+        in_two ∙ rw (read, got_read _ _ e, drop_last out some, set_at part _ [] v (length out - 1) count)

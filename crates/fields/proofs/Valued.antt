@@ -1,25 +1,23 @@
 -- A field's number and its stop, met byte by byte, as the code holds them. Assumes nothing.
 use Prim.Native.Nat.{ℕ, ◌+◌, ◌≤◌, ◌<◌, min}
-use native.Mathlib.Omega.{arith}
 use borrow.Author.Tests.{lt-ltb, le-ltb, eq-eqb, ne_eqb}
 use mathlib.Core.Path.{◌≡◌}
 use mathlib.Core.List.{List}
 use lib.ListN.{length, get_or}
+use Rattle.std.specs.Prelude.{Ok, Err}
 use Rattle.table.specs.declared.Verdict.{Verdict}
 use Rattle.table.specs.declared.Verdict.TheVariants.{BadText}
 use Rattle.text.specs.Text.{line_feed}
 use Rattle.fields.specs.Stepping.{Step, stop, go, ◌then◌}
-use Rattle.fields.specs.declared.Field.TheVariants as F
-use Rattle.fields.specs.Promises.{as_field}
-use Rattle.fields.proofs.Steps.{got_field, refused-field}
 use Rattle.fields.specs.declared.Ending.TheVariants.{Comma, Line, Text}
 use Rattle.fields.specs.TextFields.{comma, quote, carriage_return, stands_at, decimal_at, closed_at, value_at, ending_at}
-use Rattle.fields.specs.Promises.{held}
+use Rattle.fields.specs.Promises.{as_read, held}
+use Rattle.fields.proofs.Steps.{got_read, refused-read}
 
 -- what is held stops where the number does
 pub held_stop : (x : Step ℕ) (v : Verdict) → held x ≡ stop v → x ≡ stop v
 held_stop (stop w) v e = e
-held_stop (go u n) v e = let z : ◌≡◌ {A = ℕ} 0 1 = cc in absurd (omega arith)
+held_stop (go u n) v e = absurd cc
 
 -- and else is that number, held
 pub record Held (x : Step ℕ) (v n : ℕ) : Type 0 where
@@ -29,7 +27,7 @@ pub record Held (x : Step ℕ) (v n : ℕ) : Type 0 where
 
 -- so it is where the code went on
 pub held_go : (x : Step ℕ) (v n : ℕ) → held x ≡ go v n → Held x v n
-held_go (stop w) v n e = let z : ◌≡◌ {A = ℕ} 0 1 = cc in absurd (omega arith)
+held_go (stop w) v n e = absurd cc
 held_go (go u m) v n e = let q : m ≡ n = cc in record { number = u; step = rw q; same = cc }
 
 module _ (s : List ℕ) (value at : ℕ) where
@@ -56,24 +54,27 @@ module _ (s : List ℕ) (at : ℕ) where
     inner = rw (eq-eqb (get_or s at 0) quote open-quote)
 
     -- the number is refused
-    pub inner_stops : (v : Verdict) → F.Refused v ≡ as_field (held (decimal_at s (at + 1))) → F.Refused v ≡ as_field (held (value_at s at))
+    pub inner_stops : (v : Verdict) → Err v ≡ as_read (held (decimal_at s (at + 1))) → Err v ≡ as_read (held (value_at s at))
     unfolding ◌then◌
-    inner_stops v e = rw (inner, held_stop (decimal_at s (at + 1)) v (refused-field _ v e))
+    inner_stops v e = rw (inner, held_stop (decimal_at s (at + 1)) v (refused-read _ v e))
 
-    module _ (v n : ℕ) (e : F.Got v n ≡ as_field (held (decimal_at s (at + 1)))) where
+    module _ (v n : ℕ) (e : Ok (record { value = v; next = n }) ≡ as_read (held (decimal_at s (at + 1)))) where
       -- the number that stands there
       number : Held (decimal_at s (at + 1)) v n
-      number = held_go _ v n (got_field _ v n e)
+      number = held_go _ v n (got_read _ _ e)
 
       -- no quote closes it
-      pub unclosed : (get_or s n 0 ≡ quote → ⊥) → F.Refused (BadText n) ≡ as_field (held (value_at s at))
+      pub unclosed : (get_or s n 0 ≡ quote → ⊥) → Err (BadText n) ≡ as_read (held (value_at s at))
       unfolding ◌then◌
       unclosed h = rw (inner, number.step, stays_open s number.number n h)
 
       -- a quote does
-      pub closed : get_or s n 0 ≡ quote → F.Got v (n + 1) ≡ as_field (held (value_at s at))
+      pub closed : get_or s n 0 ≡ quote → Ok (record { value = v; next = n + 1 }) ≡ as_read (held (value_at s at))
       unfolding ◌then◌
       closed h = rw (inner, number.step, closes s number.number n h, number.same)
+
+-- what the code needs
+pub ruleset by_quotes = (unquoted, inner_stops, unclosed, closed)
 
 -- what ends a field
 module _ (s : List ℕ) (at : ℕ) where

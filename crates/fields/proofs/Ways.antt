@@ -4,11 +4,12 @@ use mathlib.Core.Path.{◌≡◌}
 use mathlib.Core.Bool.{Bool, false}
 use mathlib.Core.List.{List, []}
 use Rattle.table.specs.Verdicts.{◌or_else◌}
-use Rattle.table.specs.Fields.{Wanted, judge}
+use Rattle.table.specs.declared.Wanted.{Wanted}
+use Rattle.table.specs.Fields.{judge}
 use Rattle.table.proofs.Codes.{first_good}
 use Rattle.table.proofs.Fine.{Fine, good_fine}
-use Rattle.fields.specs.declared.Way.{Way}
-use Rattle.fields.specs.declared.Way.TheVariants.{Seven, Commas}
+use Rattle.fields.specs.Ways.{Way}
+use Rattle.fields.specs.Ways.{Seven, Commas}
 use Rattle.fields.specs.Stepping.{go}
 use Rattle.fields.specs.TextFields.{value_at, ending_at, misfit, text_field}
 use Rattle.fields.specs.Ways.{number_by}

@@ -6,7 +6,8 @@ use Rattle.text.specs.Numerals.{digits_in, numeral}
 use Rattle.table.specs.declared.Verdict.{Verdict}
 use Rattle.table.specs.declared.Verdict.TheVariants.{Good, BadText}
 use Rattle.table.specs.Verdicts.{◌or_else◌}
-use Rattle.table.specs.Fields.{Wanted, time, judge}
+use Rattle.table.specs.declared.Wanted.{Wanted}
+use Rattle.table.specs.Fields.{time, judge}
 use Rattle.fields.specs.Stepping.{Step, stop, go, ◌then◌, unless, fields_at}
 use Rattle.fields.specs.declared.Ending.{Ending}
 use Rattle.fields.specs.declared.Ending.TheVariants.{Comma, Line, Text}

@@ -1,11 +1,14 @@
 -- The two ways in which a row's numbers stand one after another: in a file, and in a line of text, a comma behind each but the last.
 use Rattle.std.specs.Prelude.{ℕ, true, false, List}
 use Rattle.model.specs.Task.{Task}
-use Rattle.table.specs.Fields.{Wanted, time}
-use Rattle.fields.specs.declared.Way.{Way}
-use Rattle.fields.specs.declared.Way.TheVariants.{Seven, Commas}
+use Rattle.table.specs.declared.Wanted.{Wanted}
+use Rattle.table.specs.Fields.{time}
 use Rattle.fields.specs.Stepping.{Step, field_at, times_at, row_by}
 use Rattle.fields.specs.TextFields.{text_field, text_times}
+
+pub data Way : Type 0 where
+  Seven : Way
+  Commas : Way
 
 -- the number wanted at a place
 abbrev pub number_by : Way → List ℕ → Wanted → ℕ → Step ℕ

@@ -18,7 +18,7 @@ use Rattle.table.specs.Memory.{all_times, rows_of}
 use Rattle.table.specs.Clash.{clash_of}
 use Rattle.table.proofs.GoodTasks.{FineTask, FineTasks, GoodTasks}
 use Rattle.fields.specs.Stepping.{stop, go, field_at, times_at}
-use Rattle.fields.specs.declared.Way.TheVariants.{Seven}
+use Rattle.fields.specs.Ways.{Seven}
 use Rattle.fields.proofs.RowRead.{TimesReader, row_back}
 use Rattle.fields.proofs.TimesRead.{times_fine}
 use Rattle.files.specs.Reading.{row_at, rows_at, end_at, decode}

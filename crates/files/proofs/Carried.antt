@@ -12,8 +12,8 @@ use Rattle.lists.proofs.Tests.{by_test}
 use Rattle.numbers.specs.Numbers.{Bytes}
 use Rattle.model.specs.Task.{Task}
 use Rattle.table.specs.declared.Row.{Row}
-use Rattle.table.specs.declared.Rule.{Rule}
-use Rattle.table.specs.declared.Rule.TheVariants as R
+use Rattle.table.specs.Rules.{Rule}
+use Rattle.table.specs.Rules as R
 use Rattle.table.specs.declared.Verdict.{Verdict}
 use Rattle.table.specs.declared.Verdict.TheVariants.{Trailing}
 use Rattle.table.specs.Verdicts.{number_of, good, ◌or_else◌}

@@ -1,164 +1,106 @@
 // Table files: read one into a table in memory, and write a table in memory as one.
 #![tactic(auto)]
 
-ghost use Rattle.std.specs.Prelude.{◌≡◌, [], ◌++◌, ◌+◌, ◌≤◌, length};
-ghost use Rattle.std.proofs.lemmas.List.Edits.{sets};
+ghost use Rattle.std.specs.Prelude.{◌≡◌, [], ◌≤◌, length};
 ghost use Rattle.lists.specs.Lists.{over};
 ghost use Rattle.numbers.specs.Numbers.{encode_all};
-ghost use Rattle.table.specs.Fields.{fields_of};
-ghost use Rattle.table.specs.Verdicts.{code_of};
-ghost use Rattle.table.specs.Faults.{fault_of};
 ghost use Rattle.table.specs.Memory.{tasks_of};
 ghost use Rattle.table.specs.Written.{Writes};
 ghost use Rattle.table.specs.declared.Verdict.TheVariants.{Good};
-ghost use Rattle.files.specs.Reading.{rows_at, end_at, loaded, read_answer};
-ghost use Rattle.fields.specs.Stepping.{stop, ◌then◌};
-ghost use Rattle.files.specs.Promises.{as_body, answer_with, closed, InOrder};
-ghost use Rattle.files.specs.Writing.{file_numbers, Wrote};
+ghost use Rattle.files.specs.Reading.{rows_at, decode, read_answer};
+ghost use Rattle.files.specs.Promises.{as_stored, Loads, loaded_by, Fitted};
+ghost use Rattle.files.specs.Writing.{file_numbers, file_of, Wrote};
 
-use fields::{Field, Head, Next, Way};
-use table::{Row, Table, Verdict, Written};
+use arrayvec::ArrayVec;
+use fields::{Growing, Seven};
+use numbers::Read;
+use table::{GoodTable, Table, Verdict, Wanted, Written};
 
-// The verdict on a file, and its table: zeros where the verdict is not good.
+// The verdict on a file, and its table: zeros where the verdict is not good, which `AfterReading` holds.
 #[derive(Clone, Copy)]
 pub struct Loaded {
     pub verdict: Verdict,
     pub table: Table,
 }
 
-// The rows that were read, and where reading goes on or why it does not.
-#[derive(Drop)]
-struct Body {
-    next: Next,
-    table: Table,
+impl From<Result<GoodTable, Verdict>> for Loaded {
+    ghost from_gives = { λ read answer. answer ≡ loaded_by read };
+
+    fn from(read: Result<GoodTable, Verdict>) -> Loaded {
+        match read {
+            Ok(good) => Loaded {
+                verdict: Verdict::Good,
+                table: good.table,
+            },
+            Err(verdict) => Loaded {
+                verdict,
+                table: Table::zeros(),
+            },
+        }
+    }
 }
 
-// What reading rows gives where it is refused.
-fn no_rows(v: Verdict) -> Body
-    ensures { result ≡ as_body (stop v) }
-{
-    let next = Next::Refused(v);
-    let table = table::zeros();
-    Body { next, table }
-}
+// A file's row count.
+const ROW_COUNT: Wanted = Wanted {
+    low: 0,
+    high: 64,
+    left: 64,
+};
 
-// The `n` rows that begin at `at`.
-fn read_rows(bytes: &[u8], at: usize, n: usize) -> Body
+// The `n` rows that begin at `at`, as a table, and where reading goes on.
+fn read_rows(bytes: &[u8], at: usize, n: u32) -> Result<Read<Table>, Verdict>
     requires { n ≤ 64 }
-    ensures { result ≡ as_body (rows_at n [] bytes.now at) }
+    ensures { result ≡ as_stored (rows_at n [] bytes.now at) }
 {
-    let row0 = table::row_of([0u32; 7]);
-    let mut rows = [row0; 64];
-    let mut times = [0u32; 1024];
+    let mut growing = Growing::new();
     let mut p = at;
-    let mut used: u32 = 0;
-    let mut i = 0;
-    while i < n {
-        match fields::read_row(Way::Seven, bytes, p, used, &mut times) {
-            Head::Refused(v) => return no_rows(v),
-            Head::Got { row, next } => {
-                rows[i] = row;
-                used += row.parts;
-                p = next;
-            }
-        }
-        i += 1;
+    for _ in 0..n {
+        p = growing.read_row::<Seven>(bytes, p)?;
     }
-    let next = Next::At(p);
-    let table = Table {
-        count: n,
-        rows,
-        times,
-    };
-    Body { next, table }
+    Ok(Read {
+        value: growing.table,
+        next: p,
+    })
 }
 
-// What a refused read gives: a table of zeros.
-pub fn refuse(v: Verdict) -> Loaded
-    ensures { result ≡ loaded (stop v) }
+// Reads a table file: a table that nothing stands against, or why it is refused.
+pub fn load(bytes: &[u8]) -> Result<GoodTable, Verdict>
+    ensures { Loads (decode bytes.now) result }
 {
-    let table = table::zeros();
-    Loaded { verdict: v, table }
-}
-
-// The answer with this table: the rules over the whole of it, and where none is broken the table.
-pub fn answer_with(table: Table) -> Loaded
-    ensures { result ≡ answer_with table }
-{
-    let v = table::clash_of(table);
-    if table::code_of(v) != 0 {
-        return refuse(v);
+    let count = fields::read_field(bytes, 0, ROW_COUNT)?;
+    let rows = read_rows(bytes, count.next, count.value)?;
+    if rows.next < bytes.len() {
+        return Err(Verdict::Trailing(rows.next));
     }
-    let verdict = Verdict::Good;
-    Loaded { verdict, table }
+    let table = rows.value;
+    table.check_clashes()?;
+    Ok(GoodTable { table })
 }
 
-// The file's end, then the answer.
-fn read_end(bytes: &[u8], at: usize, table: Table) -> Loaded
-    ensures { result ≡ closed bytes.now at table }
-{
-    if at < bytes.len() {
-        return refuse(Verdict::Trailing(at));
-    }
-    answer_with(table)
-}
-
-// What follows the row count.
-fn read_body(bytes: &[u8], at: usize, n: usize) -> Loaded
-    requires { n ≤ 64 }
-    ensures { result ≡ loaded (rows_at n [] bytes.now at then end_at bytes.now) }
-{
-    let body = read_rows(bytes, at, n);
-    let next = body.next;
-    match next {
-        Next::Refused(v) => refuse(v),
-        Next::At(p) => {
-            let table = body.table;
-            read_end(bytes, p, table)
-        }
-    }
-}
-
-// Reads a table file.
+// Reads a table file: the verdict, and the table, zeros where it is refused.
 pub fn read(bytes: &[u8]) -> Loaded
     ensures { result ≡ read_answer bytes.now }
 {
-    match fields::read_field(bytes, 0, 0, 64, 64) {
-        Field::Refused(v) => refuse(v),
-        Field::Got { value, next } => read_body(bytes, next, value as usize),
-    }
+    Loaded::from(load(bytes))
 }
 
-// Copies the numbers of one row to the front of `out`: its fields, then its times.
-fn put_row(row: Row, times: &[u32], out: &mut [u32])
-    requires { 7 + length times.now ≤ length out.old }
-    ensures { out.new ≡ sets out.old 0 (fields_of row ++ times.now) }
+// The numbers of a table's file, one after another.
+fn file_numbers(t: &GoodTable) -> ArrayVec<u32, 1473>
+    ensures { result.items ≡ file_numbers (tasks_of t.now.table) }
 {
-    let fields = table::fields_of(row);
-    lists::copy(&fields, out);
-    lists::copy(times, &mut out[7..]);
-}
-
-// The numbers of a good table's file, one after another; how many there are.
-fn file_numbers(t: Table, out: &mut [u32]) -> usize
-    requires { (code_of (fault_of t) ≡ 0) × (length out.old ≡ 1473) }
-    ensures { InOrder (file_numbers (tasks_of t)) out.old result out.new }
-{
-    let n = t.count;
-    let times = t.times;
-    out[0] = n as u32;
-    let mut p: usize = 1;
-    let mut used: usize = 0;
-    let mut i = 0;
-    while i < n {
-        let row = t.rows[i];
-        let end = used + row.parts as usize;
-        put_row(row, &times[used..end], &mut out[p..]);
-        p = p + 7 + row.parts as usize;
-        used = end;
-        i += 1;
+    let rows = t.table.used_rows();
+    let mut rest = &t.table.times[..];
+    let mut numbers = ArrayVec::new();
+    numbers.push(rows.len() as u32);
+    for row in rows {
+        let (times, behind) = rest.split_at(row.parts as usize);
+        numbers
+            .try_extend_from_slice(&<[u32; 7]>::from(*row))
+            .unwrap();
+        numbers.try_extend_from_slice(times).unwrap();
+        rest = behind;
     }
-    p
+    numbers
 }
 
 // How many bytes numbers take.
@@ -166,13 +108,7 @@ fn size_of_all(numbers: &[u32]) -> usize
     requires { length numbers.now ≤ 1473 }
     ensures { result ≡ length (encode_all numbers.now) }
 {
-    let mut size = 0;
-    let mut i = 0;
-    while i < numbers.len() {
-        size += numbers::size_of(numbers[i]);
-        i += 1;
-    }
-    size
+    numbers.iter().map(|n| numbers::size_of(*n)).sum()
 }
 
 // Writes numbers one after another to the front of `out`.
@@ -181,32 +117,32 @@ fn put_all(out: &mut [u8], numbers: &[u32])
     ensures { out.new ≡ over (encode_all numbers.now) out.old }
 {
     let mut p = 0;
-    let mut i = 0;
-    while i < numbers.len() {
-        p += numbers::put_number(&mut out[p..], numbers[i]);
-        i += 1;
+    for n in numbers {
+        p += numbers::put_number(&mut out[p..], *n);
     }
 }
 
-// Writes a table file: what stands against it first, then the room, and only then the bytes.
-pub fn write(table: Table, out: &mut [u8]) -> Written
-    ensures { Wrote table out.old result out.new }
+// The file of a table that nothing stands against, where it fits; how many bytes it has.
+fn put_file(t: &GoodTable, out: &mut [u8]) -> Result<usize, Verdict>
+    ensures { Fitted (file_of t.now.table) out.old result out.new }
 {
-    let fault = table::fault_of(table);
-    if table::code_of(fault) != 0 {
-        return table::refused(fault);
-    }
-    let mut numbers = [0u32; 1473];
-    let n = file_numbers(table, &mut numbers);
-    let size = size_of_all(&numbers[..n]);
+    let numbers = file_numbers(t);
+    let size = size_of_all(numbers.as_slice());
     if out.len() < size {
-        return table::refused(Verdict::NoRoom(size));
+        return Err(Verdict::NoRoom(size));
     }
-    put_all(out, &numbers[..n]);
-    Written {
-        verdict: Verdict::Good,
-        count: size,
-    }
+    put_all(out, numbers.as_slice());
+    Ok(size)
+}
+
+// Writes a table file: what stands against it first, then the room, and only then the bytes.
+pub fn write(table: &Table, out: &mut [u8]) -> Written
+    ensures { Wrote table.now out.old result out.new }
+{
+    Written::from(match GoodTable::try_from(*table) {
+        Ok(good) => put_file(&good, out),
+        Err(fault) => Err(fault),
+    })
 }
 
 // Writes bytes that are worked out into lent room: all of them, or none where they do not fit.
@@ -215,11 +151,8 @@ pub fn write_bytes(bytes: &[u8], out: &mut [u8]) -> Written
 {
     let n = bytes.len();
     if out.len() < n {
-        return table::refused(Verdict::NoRoom(n));
+        return Written::from(Err(Verdict::NoRoom(n)));
     }
-    text::put_bytes(out, 0, bytes);
-    Written {
-        verdict: Verdict::Good,
-        count: n,
-    }
+    out[..n].copy_from_slice(bytes);
+    Written::from(Ok(n))
 }

@@ -4,7 +4,7 @@ use Prim.Native.Nat.{ℕ, ◌+◌, ◌-◌, ◌*◌, ◌≤◌, ◌<◌}
 use mathlib.Core.Path.{◌≡◌, ap, ◌∙◌}
 use native.Mathlib.Omega.{arith}
 use Rattle.lists.proofs.Tests.{by_test}
-use Rattle.model.specs.declared.Found.TheVariants.{At}
+use Rattle.std.specs.Prelude.{Some}
 use Rattle.model.specs.Least.{value}
 use Rattle.model.specs.Task.{parts}
 use Rattle.model.specs.Bounds.{limit, before, cooperative, window, jobs, preemptive_end, start, end_from, finish, response, bound}
@@ -19,7 +19,7 @@ use Rattle.machine.proofs.Worked.{work_grows, ended}
 use Rattle.machine.proofs.Job.{Job, t0, j, done_by, later, in_window}
 use Rattle.machine.proofs.Ends.{part_end, preemptive_ends, cooperative_ends}
 
-module _ (job : Job) (L : ℕ) (found : window job.play.rows job.row ≡ At L) where
+module _ (job : Job) (L : ℕ) (found : window job.play.rows job.row ≡ Some L) where
   open job use {play, row, its_row}
   open play use {rows, core}
 
@@ -31,7 +31,7 @@ module _ (job : Job) (L : ℕ) (found : window job.play.rows job.row ≡ At L) w
 
   module _ (r : ℕ) (inside : r < parts row) where
     -- by the end found for it the part has ended
-    found-end : (f : ℕ) × (finish rows row r (j job) ≡ At f) × (part_end job r ≤ done_by job row f)
+    found-end : (f : ℕ) × (finish rows row r (j job) ≡ Some f) × (part_end job r ≤ done_by job row f)
     unfolding preemptive_end start end_from finish
     found-end =
         by_test (cooperative row)
@@ -49,7 +49,7 @@ module _ (job : Job) (L : ℕ) (found : window job.play.rows job.row ≡ At L) w
         (e.f, rw (c, finish) e.ends, preemptive_ends job r (no_blocking rows row c) e.f ends)))
 
     -- the bound is at least that end, less the periods before the job
-    in_bound : (f : ℕ) → finish rows row r (j job) ≡ At f → f ≤ bound rows row r + j job * row.period
+    in_bound : (f : ℕ) → finish rows row r (j job) ≡ Some f → f ≤ bound rows row r + j job * row.period
     unfolding value jobs response
     in_bound f e =
         let all : jobs rows row ≡ before row L = ap (λ o. before row (value o)) found in

@@ -1,7 +1,7 @@
 -- Demand 3: no allowed run of the one-core machine is later than the bounds, deadline kept or not.
 use Rattle.std.specs.Prelude.{ℕ, ◌+◌, ◌≤◌, ◌<◌, ◌≡◌, List}
 use Rattle.lists.specs.Lists.{◌∈◌}
-use Rattle.model.specs.declared.Found.TheVariants.{At}
+use Rattle.std.specs.Prelude.{Some}
 use Rattle.model.specs.Task.{Task, parts}
 use Rattle.model.specs.Rows.{GoodCore}
 use Rattle.model.specs.Bounds.{window, bound}
@@ -15,5 +15,5 @@ NeverLater rows run row =
 -- so it is for each row, of either kind, of a core of a good table whose window is within the limit, in every allowed run
 unfoldable pub NoRunIsLater : Type 0
 NoRunIsLater =
-    (rows : List Task) → GoodCore rows → (row : Task) → row ∈ rows → (L : ℕ) → window rows row ≡ At L
+    (rows : List Task) → GoodCore rows → (row : Task) → row ∈ rows → (L : ℕ) → window rows row ≡ Some L
     → (run : Run) → Allowed rows run → NeverLater rows run row

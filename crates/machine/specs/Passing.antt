@@ -1,7 +1,7 @@
 -- Document 02, §4: what the delay along a chain means. The four cores run side by side; a value goes from step to step.
 use Rattle.std.specs.Prelude.{ℕ, ◌+◌, ◌≤◌, ◌<◌, ◌≡◌, true, false, List, [], ◌∷◌}
 use Rattle.lists.specs.Lists.{◌∈◌}
-use Rattle.model.specs.declared.Found.TheVariants.{At}
+use Rattle.std.specs.Prelude.{Some}
 use Rattle.model.specs.Task.{Task, parts}
 use Rattle.model.specs.Rows.{GoodCore}
 use Rattle.model.specs.Bounds.{on_core, window}
@@ -54,7 +54,7 @@ module _ (tasks : List Task) (runs : ℕ → Run) where
 pub record StepOf (tasks : List Task) (l : Link) : Type 0 where
   pub row : l.task ∈ on_core l.task.core tasks
   pub core : GoodCore (on_core l.task.core tasks)
-  pub windowed : (L : ℕ) × (window (on_core l.task.core tasks) l.task ≡ At L)
+  pub windowed : (L : ℕ) × (window (on_core l.task.core tasks) l.task ≡ Some L)
   pub inside : l.part < parts l.task
 
 -- steps with one id are of one task

@@ -4,7 +4,7 @@ use mathlib.Core.Path.{◌≡◌, refl, ◌∙◌}
 use native.Mathlib.Omega.{arith}
 use lib.Dec.{lit<}
 use Rattle.lists.specs.Lists.{keep, total, sum, largest}
-use Rattle.model.specs.declared.Found.TheVariants.{At, Nothing}
+use Rattle.std.specs.Prelude.{Some, None}
 use Rattle.model.specs.Least.{least, scan, found, value, max_below}
 use Rattle.model.specs.Task.{cost, part, parts_before, parts}
 use Rattle.model.specs.Bounds.{limit, up, down, before, through, cooperative, preemptive, higher, lower, blocking}
@@ -41,12 +41,12 @@ unfolding all
 bound_p = refl
 
 -- the row at the limit
-window_c : window (one 16777215) (most 16777215) ≡ At 16777215
+window_c : window (one 16777215) (most 16777215) ≡ Some 16777215
 unfolding sides
 window_c = window-from-cost (one 16777215) (most 16777215) (lit< tt) (lit< tt) ∙ refl
 
 -- its end
-end_c : preemptive_end (one 16777215) (most 16777215) 0 0 ≡ At 16777215
+end_c : preemptive_end (one 16777215) (most 16777215) 0 0 ≡ Some 16777215
 unfolding sides
 end_c = end_from-own (one 16777215) (most 16777215) 0 0 (lit< tt) ∙ refl
 
@@ -61,7 +61,7 @@ unfolding parts meets_deadline verdicts
 good_c = rw (window_c, bound_c)
 
 -- and over it
-window_o : window (one 16777214) (most 16777214) ≡ Nothing
+window_o : window (one 16777214) (most 16777214) ≡ None
 unfolding sides
 window_o = window-from-cost (one 16777214) (most 16777214) (lit< tt) (lit< tt) ∙ refl
 
@@ -71,14 +71,14 @@ unfolding verdicts
 over_c = rw window_o
 
 -- the upper of two rows that ask for more than every tick
-window_d1 : window full d1 ≡ At 1
+window_d1 : window full d1 ≡ Some 1
 unfolding sides window
 window_d1 =
-    least_is (demand full d1) 1 limit (At 1)
+    least_is (demand full d1) 1 limit (Some 1)
     (record { above = omega arith; within = omega arith; solves = refl; first = λ z a b e. omega arith })
 
 -- the lower of them
-window_d2 : window full d2 ≡ Nothing
+window_d2 : window full d2 ≡ None
 unfolding rows window
 window_d2 = least_never _ 1 limit (λ z a. omega (arith, before_is d1 z, up_one z, before_pos d2 (lit< tt) z a))
 

@@ -3,8 +3,8 @@ use Prim.Native.Nat.{ℕ, zero, suc, ◌≤◌}
 use native.Mathlib.Omega.{arith}
 use mathlib.Core.List.{List}
 use Rattle.lists.proofs.Tests.{by_test}
-use Rattle.model.specs.declared.Found.{Found}
-use Rattle.model.specs.declared.Found.TheVariants.{At, Nothing}
+use Rattle.model.specs.Least.{Found}
+use Rattle.std.specs.Prelude.{Some, None}
 use Rattle.model.specs.Task.{Task}
 use Rattle.model.specs.Least.{least, value, max_below, Says}
 use Rattle.model.specs.Bounds.{limit, cooperative, preemptive_end, start, end_from, finish, response, bound, jobs}
@@ -13,8 +13,8 @@ use Rattle.model.proofs.Least.{least_says}
 -- what is found lies within the limit
 pub value-most : (g : ℕ → ℕ) (from most : ℕ) (a : Found) → Says g from most a → value a ≤ most
 unfolding value
-value-most g from most (At x) s = s.within
-value-most g from most Nothing s = omega arith
+value-most g from most (Some x) s = s.within
+value-most g from most None s = omega arith
 
 -- the least solution is
 least-most : (g : ℕ → ℕ) (from : ℕ) → value (least g from limit) ≤ limit
@@ -30,8 +30,8 @@ module _ (rows : List Task) (t : Task) (r : ℕ) where
   -- a cooperative end
   end-most : (j : ℕ) (x : Found) → value (end_from rows t r j x) ≤ limit
   unfolding end_from
-  end-most j (At s) = least-most _ _
-  end-most j Nothing = unfold value in omega arith
+  end-most j (Some s) = least-most _ _
+  end-most j None = unfold value in omega arith
 
   -- either end
   finish-most : (j : ℕ) → value (finish rows t r j) ≤ limit

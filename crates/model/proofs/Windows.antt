@@ -11,7 +11,7 @@ use borrow.Author.Tests.{lt-ltb, le-ltb, ltb-true, le-leb, lt-leb, leb-true}
 use Rattle.lists.specs.Lists.{◌∈◌, keep, total}
 use Rattle.lists.proofs.Tests.{by_test, either}
 use Rattle.lists.proofs.Totals.{total_newly}
-use Rattle.model.specs.declared.Found.TheVariants.{At}
+use Rattle.std.specs.Prelude.{Some}
 use Rattle.model.specs.Task.{Task, part, cost}
 use Rattle.model.specs.Rows.{GoodCore}
 use Rattle.model.specs.Bounds.{limit, cooperative, before, higher, blocking, demand, window}
@@ -23,7 +23,7 @@ use Rattle.model.proofs.Blocking.{no_blocking, blocking-part, blocking-most}
 use Rattle.model.proofs.Demand.{work, demand_is, demand_mono, demand-cost}
 use Rattle.model.proofs.Exists.{the_window}
 
-module _ (rows : List Task) (core : GoodCore rows) (t : Task) (m : t ∈ rows) (L : ℕ) (w : window rows t ≡ At L)
+module _ (rows : List Task) (core : GoodCore rows) (t : Task) (m : t ∈ rows) (L : ℕ) (w : window rows t ≡ Some L)
     (u : Task) (n : u ∈ rows) (above : t.priority < u.priority) where
   -- the upper row's work and that of its higher rows is all asked for above t
   upper : before u L * cost u + work (higher rows u) L ≤ work (higher rows t) L
@@ -91,7 +91,7 @@ module _ (rows : List Task) (core : GoodCore rows) (t : Task) (m : t ∈ rows) (
           absurd (omega (arith, preemptive-higher rows core u n c t m (other_kind t (core.good t m) e))))
 
   -- so it has a window
-  pub higher-window : (M : ℕ) × (window rows u ≡ At M) × (M ≤ L)
+  pub higher-window : (M : ℕ) × (window rows u ≡ Some M) × (M ≤ L)
   unfolding window
   higher-window =
       least_exists (demand rows u) 1 limit L (demand_mono rows u)

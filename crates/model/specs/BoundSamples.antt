@@ -2,8 +2,8 @@
 -- them, as one statement.
 use Rattle.std.specs.Prelude.{ℕ, ◌+◌, ◌-◌, ◌*◌, ◌≡◌, List, [], ◌∷◌}
 use Rattle.lists.specs.Lists.{keep, total}
-use Rattle.model.specs.declared.Found.{Found}
-use Rattle.model.specs.declared.Found.TheVariants.{At}
+use Rattle.model.specs.Least.{Found}
+use Rattle.std.specs.Prelude.{Some}
 use Rattle.model.specs.Least.{least}
 use Rattle.model.specs.Task.{Task, cost, part, parts_before}
 use Rattle.model.specs.Bounds.{limit, preemptive, before, higher, blocking, window, jobs, start, finish, response, bound}
@@ -72,20 +72,20 @@ module _ (rows : List Task) (t : Task) (r : ℕ) where
 pub record BoundSamples : Type 0 where
   -- nothing blocks a preemptive row, nor a row with none below it
   pub blocked_a : (blocking (set_a 20) a1 ≡ 0) × (blocking (set_a 20) a2 ≡ 2) × (blocking (set_a 20) (a3 20) ≡ 0)
-  pub windows_a : (window (set_a 20) a1 ≡ At 1) × (window (set_a 20) a2 ≡ At 7) × (window (set_a 20) (a3 20) ≡ At 10)
+  pub windows_a : (window (set_a 20) a1 ≡ Some 1) × (window (set_a 20) a2 ≡ Some 7) × (window (set_a 20) (a3 20) ≡ Some 10)
   pub bounds_a1 : bound (set_a 20) a1 0 ≡ 1
   pub bounds_a2 : (bound (set_a 20) a2 0 ≡ 4) × (bound (set_a 20) a2 1 ≡ 7)
   pub bounds_a3 : (bound (set_a 20) (a3 20) 0 ≡ 7) × (bound (set_a 20) (a3 20) 1 ≡ 10)
-  pub part_a : (start (set_a 20) (a3 20) 0 0 ≡ At 4) × (finish (set_a 20) (a3 20) 0 0 ≡ At 7)
-  pub printed_a : (printed_start (set_a 20) (a3 20) 0 0 ≡ At 9) × (printed_end (set_a 20) (a3 20) 0 9 ≡ At 11)
+  pub part_a : (start (set_a 20) (a3 20) 0 0 ≡ Some 4) × (finish (set_a 20) (a3 20) 0 0 ≡ Some 7)
+  pub printed_a : (printed_start (set_a 20) (a3 20) 0 0 ≡ Some 9) × (printed_end (set_a 20) (a3 20) 0 9 ≡ Some 11)
   pub good_a : (core_verdict (set_a 20) ≡ passes) × (core_verdict (set_a 10) ≡ passes)
   pub late_a : core_verdict (set_a 9) ≡ misses (a3 9)
-  pub window_b : (window pair b2 ≡ At 694) × (jobs pair b2 ≡ 7)
+  pub window_b : (window pair b2 ≡ Some 694) × (jobs pair b2 ≡ 7)
   pub first_b : (response pair b2 0 0 ≡ 114) × (response pair b2 0 1 ≡ 102) × (response pair b2 0 2 ≡ 116)
   pub last_b : (response pair b2 0 3 ≡ 104) × (response pair b2 0 4 ≡ 118) × (response pair b2 0 5 ≡ 106) × (response pair b2 0 6 ≡ 94)
   pub bound_b : bound pair b2 0 ≡ 118
   pub limit_good : core_verdict (one 16777215) ≡ passes
   pub limit_over : core_verdict (one 16777214) ≡ no_window (most 16777214)
   -- a lower part of one tick blocks nobody, so the upper row has a window
-  pub one_tick : (blocking full d1 ≡ 0) × (window full d1 ≡ At 1)
+  pub one_tick : (blocking full d1 ≡ 0) × (window full d1 ≡ Some 1)
   pub full_lower : core_verdict full ≡ no_window d2

@@ -3,8 +3,8 @@
 use Rattle.std.specs.Prelude.{ℕ, suc, ◌+◌, ◌-◌, ◌*◌, ◌/◌, Bool, true, false, not, List, [], ◌∷◌, map, eqb, ltb, leb}
 use Rattle.std.proofs.Math.Option.{Option, some, none}
 use Rattle.lists.specs.Lists.{pick, keep, total, largest, listed}
-use Rattle.model.specs.declared.Found.{Found}
-use Rattle.model.specs.declared.Found.TheVariants.{At, Nothing}
+use Rattle.model.specs.Least.{Found}
+use Rattle.std.specs.Prelude.{Some, None}
 use Rattle.model.specs.Least.{least, found, value, max_below}
 use Rattle.model.specs.Task.{Task, parts, part, parts_before, cost}
 
@@ -70,9 +70,9 @@ module _ (rows : List Task) (t : Task) where
 
     -- its end from there (12), with down for the paper's up: only preemptive rows delay a part that has begun
     unfoldable pub end_from : Found → Found
-    end_from (At s) =
+    end_from (Some s) =
         least (λ f. s + part t r + total (λ u. (before u f - through u s) * cost u) (keep preemptive rows)) (s + part t r) limit
-    end_from Nothing = Nothing
+    end_from None = None
 
     unfoldable pub finish : Found
     finish = elim (cooperative t) [ true ↦ end_from start | false ↦ preemptive_end ]

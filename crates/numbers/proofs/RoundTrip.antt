@@ -11,8 +11,8 @@ use mathlib.Core.Bool.{Bool, true, false}
 use lib.ListN.{length, drop}
 use lib.Seq.{drop-drop, get_or-drop}
 use lib.Dec.{lit≤}
-use Rattle.numbers.specs.declared.Number.{Number}
-use Rattle.numbers.specs.declared.Number.TheVariants.{Got, EndsEarly, Malformed}
+use Rattle.numbers.specs.Numbers.{Number}
+use Rattle.numbers.specs.Numbers.{Got, EndsEarly, Malformed}
 use Rattle.numbers.specs.Numbers.{Bytes, after, last, groups, number_at, encode_in, encode}
 use Rattle.numbers.proofs.Laws.{encode_in-one, encode-room}
 

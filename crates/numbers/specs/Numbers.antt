@@ -3,12 +3,16 @@
 use Rattle.std.specs.Prelude.{ℕ, zero, suc, ◌+◌, ◌-◌, ◌*◌, ◌/◌, ◌%◌, ◌<◌, ◌≡◌, List, [], ◌∷◌, Bool, true, false, length, drop, get_or, ltb}
 use Rattle.std.proofs.lemmas.List.Edits.{sets}
 use Rattle.lists.specs.Lists.{pick, each}
-use Rattle.numbers.specs.declared.Number.{Number}
-use Rattle.numbers.specs.declared.Number.TheVariants.{Got, EndsEarly, Malformed}
 
 -- each is a byte
 abbrev pub Bytes : List ℕ → Type 0
 Bytes s = (i : ℕ) → get_or s i 0 < 256
+
+-- what stands at a place of a file: a number and where the next begins, or why there is none
+pub data Number : Type 0 where
+  Got : ℕ → ℕ → Number
+  EndsEarly : Number
+  Malformed : Number
 
 -- a number whose low groups are `value`, the next one at `weight`, after `used` bytes
 abbrev pub after : ℕ → ℕ → ℕ → Number → Number

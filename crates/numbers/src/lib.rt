@@ -3,66 +3,61 @@
 
 ghost use Rattle.std.specs.Prelude.{◌≡◌, length, set};
 ghost use Rattle.numbers.specs.Numbers.{number_at, encode, Put};
+ghost use Rattle.numbers.specs.Promises.{as_read};
 
-// What stands at a place of a file: a number and where the next begins, or why there is none.
+// What was read at a place, and where reading goes on.
 #[derive(Clone, Copy)]
-pub enum Number {
-    Got { value: u32, next: usize },
+pub struct Read<T> {
+    pub value: T,
+    pub next: usize,
+}
+
+// Why no number begins at a place.
+#[derive(Clone, Copy, Debug, PartialEq, Eq)]
+pub enum NumberFault {
     EndsEarly,
     Malformed,
 }
 
 // The seven-bit number that begins at `at`.
-pub fn number_at(bytes: &[u8], at: usize) -> Number
-    ensures { result ≡ number_at bytes.now at }
+pub fn number_at(bytes: &[u8], at: usize) -> Result<Read<u32>, NumberFault>
+    ensures { result ≡ as_read (number_at bytes.now at) }
 {
+    let rest = bytes.get(at..).unwrap_or(&[]);
     let mut value: u32 = 0;
     let mut weight: u32 = 1;
-    let mut p = at;
-    let mut left: u32 = 4;
-    while 0 < left {
-        if bytes.len() <= p {
-            return Number::EndsEarly;
-        }
-        let b = bytes[p] as u32;
-        p += 1;
-        if 128 <= b {
-            value += weight * (b - 128);
-            weight *= 128;
-            left -= 1;
-        } else {
-            if 0 < b {
-                return Number::Got {
-                    value: value + weight * b,
-                    next: p,
-                };
+    for (k, byte) in rest.iter().take(4).enumerate() {
+        let b = *byte as u32;
+        let alone = k == 0;
+        if b < 128 {
+            if b == 0 && !alone {
+                return Err(NumberFault::Malformed);
             }
-            if left < 4 {
-                return Number::Malformed;
-            }
-            return Number::Got { value: 0, next: p };
+            return Ok(Read {
+                value: value + weight * b,
+                next: at + k + 1,
+            });
         }
+        value += weight * (b - 128);
+        weight *= 128;
     }
-    Number::Malformed
+    if rest.len() < 4 {
+        return Err(NumberFault::EndsEarly);
+    }
+    Err(NumberFault::Malformed)
 }
 
 // How many bytes `v` takes in its shortest form.
 pub fn size_of(v: u32) -> usize
     ensures { result ≡ length (encode v) }
 {
-    if v < 128 {
-        return 1;
+    match v {
+        0..128 => 1,
+        128..16384 => 2,
+        16384..2097152 => 3,
+        2097152..268435456 => 4,
+        _ => 5,
     }
-    if v < 16384 {
-        return 2;
-    }
-    if v < 2097152 {
-        return 3;
-    }
-    if v < 268435456 {
-        return 4;
-    }
-    5
 }
 
 // A byte at a place; past the end nothing changes.
@@ -80,9 +75,10 @@ pub fn put_number(out: &mut [u8], v: u32) -> usize
 {
     let mut rest = v;
     let mut p = 0;
+    // how many bytes there are shows as the value gets small: a `while`
     while 128 <= rest {
         store(out, p, (128 + rest % 128) as u8);
-        rest = rest / 128;
+        rest /= 128;
         p += 1;
     }
     store(out, p, rest as u8);

@@ -9,6 +9,5 @@ fn main() {
     let n = io::read_full(STDIN_FILENO, &mut bytes);
     let mut out = [0u8; 29842];
     let printed = sheet::sheet(&bytes[..n], &mut out);
-    let count = printed.count;
-    io::write_all(STDOUT_FILENO, &out[..count]);
+    io::write_all(STDOUT_FILENO, &out[..printed.count]);
 }

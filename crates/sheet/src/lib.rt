@@ -1,149 +1,140 @@
-// The printed timing sheet: worked out core by core and written byte for byte.
+// The printed timing sheet: worked out core by core and written line by line.
 #![tactic(auto)]
 
-ghost use Rattle.std.specs.Prelude.{◌+◌, ◌<◌, ◌≤◌, ◌≡◌, length};
-ghost use Rattle.table.specs.Verdicts.{code_of};
+ghost use Rattle.std.specs.Prelude.{◌+◌, ◌<◌, ◌≤◌, ◌≡◌, ◌++◌, length};
 ghost use Rattle.table.specs.Memory.{used_rows, tasks_of};
-ghost use Rattle.table.specs.Faults.{fault_of};
 ghost use Rattle.text.specs.Text.{line};
-ghost use Rattle.text.specs.Promises.{Fits, PutAt};
+ghost use Rattle.text.specs.Promises.{Fits};
 ghost use Rattle.sheet.specs.Sheet.{verdict_words, bound_line, core_line, file_line};
 ghost use Rattle.sheet.specs.Sheet.{core_text, good_text, sheet_text, Prints};
 ghost use Rattle.sheet.specs.Promises.{BoundsFor, row_text, rows_text, core_bytes};
 
-use table::{Row, Table, Verdict, Written};
+use table::{GoodTable, Row, Table, Verdict, Written};
+use text::Page;
+
+// A sheet has at most so many bytes.
+type Paper = Page<29842>;
 
 // Writes the end of a verdict line: `code C number N`.
-fn put_verdict(out: &mut [u8], at: usize, v: Verdict) -> usize
-    requires { Fits (line (verdict_words v)) at out.old }
-    ensures { PutAt (line (verdict_words v)) at out.old result out.new }
+#[tactic(auto, unfolding(text::specs::Text::joined))]
+fn put_verdict(paper: &mut Paper, v: Verdict)
+    requires { Fits (line (verdict_words v)) paper.old 29842 }
+    ensures { paper.new ≡ paper.old ++ line (verdict_words v) }
 {
-    let code = table::code_of(v);
-    let number = table::number_of(v);
-    let p = text::put_word(out, at, b"code", b' ');
-    let q = text::put_decimal(out, p, code as usize, b' ');
-    let s = text::put_word(out, q, b"number", b' ');
-    text::put_decimal(out, s, number, b'\n')
+    paper.put_word(b"code", b' ');
+    paper.put_decimal(v.code() as usize, b' ');
+    paper.put_word(b"number", b' ');
+    paper.put_decimal(v.number(), b'\n');
 }
 
 // Writes the line of one bound, part `r` of a row counted from 0.
-fn put_bound(out: &mut [u8], at: usize, core: u32, row: Row, r: u32, bound: u32) -> usize
-    requires { (r < 1024) × Fits (bound_line core row.id (r + 1) bound row.deadline) at out.old }
-    ensures { PutAt (bound_line core row.id (r + 1) bound row.deadline) at out.old result out.new }
+#[tactic(auto, unfolding(crate::specs::Sheet::bound_line))]
+fn put_bound(paper: &mut Paper, core: u32, row: &Row, r: u32, bound: u32)
+    requires part { r < 1024 }
+    requires room { Fits (bound_line core row.now.id (r + 1) bound row.now.deadline) paper.old 29842 }
+    ensures { paper.new ≡ paper.old ++ bound_line core row.now.id (r + 1) bound row.now.deadline }
 {
     let numbers = [core, row.id, r + 1, bound, row.deadline];
-    text::put_numbers(out, at, &numbers, b' ', b'\n')
+    paper.put_numbers(&numbers, b' ', b'\n');
 }
 
 // Writes the lines of a row, one for each of its bounds.
-fn put_lines(out: &mut [u8], at: usize, core: u32, row: Row, bounds: &[u32]) -> usize
-    requires { (length bounds.now ≤ 1024) × Fits (row_text core row bounds.now) at out.old }
-    ensures { PutAt (row_text core row bounds.now) at out.old result out.new }
+fn put_lines(paper: &mut Paper, core: u32, row: &Row, bounds: &[u32])
+    requires parts { length bounds.now ≤ 1024 }
+    requires room { Fits (row_text core row.now bounds.now) paper.old 29842 }
+    ensures { paper.new ≡ paper.old ++ row_text core row.now bounds.now }
 {
-    let mut p = at;
-    let mut r = 0;
-    while r < bounds.len() {
-        p = put_bound(out, p, core, row, r as u32, bounds[r]);
-        r += 1;
+    for (r, bound) in bounds.iter().enumerate() {
+        put_bound(paper, core, row, r as u32, *bound);
     }
-    p
 }
 
 // Writes the lines of a core, from its rows and their bounds.
-fn put_rows(out: &mut [u8], at: usize, core: u32, own: Table, bounds: &[u32]) -> usize
-    requires { BoundsFor own (length bounds.now) × Fits (rows_text core (used_rows own) bounds.now) at out.old }
-    ensures { PutAt (rows_text core (used_rows own) bounds.now) at out.old result out.new }
+fn put_rows(paper: &mut Paper, core: u32, own: &Table, bounds: &[u32])
+    requires bounds { BoundsFor own.now (length bounds.now) }
+    requires room { Fits (rows_text core (used_rows own.now) bounds.now) paper.old 29842 }
+    ensures { paper.new ≡ paper.old ++ rows_text core (used_rows own.now) bounds.now }
 {
-    let n = own.count;
-    let mut p = at;
-    let mut used: usize = 0;
-    let mut i = 0;
-    while i < n {
-        let row = own.rows[i];
-        let end = used + row.parts as usize;
-        p = put_lines(out, p, core, row, &bounds[used..end]);
-        used = end;
-        i += 1;
+    let mut rest = bounds;
+    for row in own.used_rows() {
+        let (its, behind) = rest.split_at(row.parts as usize);
+        put_lines(paper, core, row, its);
+        rest = behind;
     }
-    p
 }
 
 // Writes the verdict line of a core.
-fn put_core_line(out: &mut [u8], at: usize, core: u32, v: Verdict) -> usize
-    requires { Fits (core_line core v) at out.old }
-    ensures { PutAt (core_line core v) at out.old result out.new }
+#[tactic(auto, unfolding(text::specs::Text::joined, crate::specs::Sheet::core_line))]
+fn put_core_line(paper: &mut Paper, core: u32, v: Verdict)
+    requires { Fits (core_line core v) paper.old 29842 }
+    ensures { paper.new ≡ paper.old ++ core_line core v }
 {
-    let p = text::put_word(out, at, b"core", b' ');
-    let q = text::put_decimal(out, p, core as usize, b' ');
-    put_verdict(out, q, v)
+    paper.put_word(b"core", b' ');
+    paper.put_decimal(core as usize, b' ');
+    put_verdict(paper, v);
 }
 
 // Writes what is printed of a file with a reading code.
-fn put_file_line(out: &mut [u8], v: Verdict) -> usize
-    requires { Fits (file_line v) 0 out.old }
-    ensures { PutAt (file_line v) 0 out.old result out.new }
+#[tactic(auto, unfolding(text::specs::Text::joined, crate::specs::Sheet::file_line))]
+fn put_file_line(paper: &mut Paper, v: Verdict)
+    requires { Fits (file_line v) paper.old 29842 }
+    ensures { paper.new ≡ paper.old ++ file_line v }
 {
-    let p = text::put_word(out, 0, b"file", b' ');
-    put_verdict(out, p, v)
+    paper.put_word(b"file", b' ');
+    put_verdict(paper, v);
 }
 
 // Writes what is said of a core: with code 11 only the verdict.
-fn put_core(out: &mut [u8], at: usize, core: u32, own: Table, v: Verdict, bounds: &[u32]) -> usize
-    requires { BoundsFor own (length bounds.now) × Fits (core_bytes core (used_rows own) bounds.now v) at out.old }
-    ensures { PutAt (core_bytes core (used_rows own) bounds.now v) at out.old result out.new }
+#[tactic(auto, unfolding(crate::specs::Promises::core_bytes))]
+fn put_core(paper: &mut Paper, core: u32, own: &Table, v: Verdict, bounds: &[u32])
+    requires bounds { BoundsFor own.now (length bounds.now) }
+    requires room { Fits (core_bytes core (used_rows own.now) bounds.now v) paper.old 29842 }
+    ensures { paper.new ≡ paper.old ++ core_bytes core (used_rows own.now) bounds.now v }
 {
-    if table::code_of(v) == 11 {
-        return put_core_line(out, at, core, v);
+    if v.code() != 11 {
+        put_rows(paper, core, own, bounds);
     }
-    let p = put_rows(out, at, core, own, bounds);
-    put_core_line(out, p, core, v)
+    put_core_line(paper, core, v);
 }
 
-// Works out a core of a good table and writes what is said of it.
-fn put_analysed(out: &mut [u8], at: usize, core: u32, t: Table) -> usize
-    requires { (core ≤ 3) × (code_of (fault_of t) ≡ 0) × Fits (core_text (tasks_of t) core) at out.old }
-    ensures { PutAt (core_text (tasks_of t) core) at out.old result out.new }
+// Works out a core of a table and writes what is said of it.
+fn put_analysed(paper: &mut Paper, core: u32, t: &GoodTable)
+    requires there { core ≤ 3 }
+    requires room { Fits (core_text (tasks_of t.now.table) core) paper.old 29842 }
+    ensures { paper.new ≡ paper.old ++ core_text (tasks_of t.now.table) core }
 {
     let c = cores::core_of(t, core);
     let mut bounds = [0u32; 1024];
-    let a = analysis::analyse_core(c, &mut bounds);
-    let v = a.verdict;
-    let own = c.own;
-    put_core(out, at, core, own, v, &bounds)
+    let answer = analysis::analyse_core(&c, &mut bounds);
+    put_core(paper, core, &c.own, answer.verdict, &bounds);
 }
 
-// Writes the sheet of a good table: the header, then the cores 0 to 3.
-fn put_cores(out: &mut [u8], t: Table) -> usize
-    requires { (code_of (fault_of t) ≡ 0) × Fits (good_text (tasks_of t)) 0 out.old }
-    ensures { PutAt (good_text (tasks_of t)) 0 out.old result out.new }
+// Writes the sheet of a table: the header, then the cores 0 to 3.
+fn put_cores(paper: &mut Paper, t: &GoodTable)
+    requires { Fits (good_text (tasks_of t.now.table)) paper.old 29842 }
+    ensures { paper.new ≡ paper.old ++ good_text (tasks_of t.now.table) }
 {
-    let mut p = text::put_word(out, 0, b"core task runnable bound deadline", b'\n');
-    let mut core: u32 = 0;
-    while core < 4 {
-        p = put_analysed(out, p, core, t);
-        core += 1;
+    paper.put_word(b"core task runnable bound deadline", b'\n');
+    for core in 0..4 {
+        put_analysed(paper, core, t);
     }
-    p
 }
 
-// Writes the sheet of a file, read once.
-fn put_sheet(out: &mut [u8], bytes: &[u8]) -> usize
-    requires { 29842 ≤ length out.old }
-    ensures { PutAt (sheet_text bytes.now) 0 out.old result out.new }
+// The sheet of a file, read once.
+fn sheet_of(bytes: &[u8]) -> Paper
+    ensures { result ≡ sheet_text bytes.now }
 {
-    let loaded = files::read(bytes);
-    let v = loaded.verdict;
-    if table::code_of(v) != 0 {
-        return put_file_line(out, v);
+    let mut paper = Page::new();
+    match files::load(bytes) {
+        Ok(good) => put_cores(&mut paper, &good),
+        Err(refusal) => put_file_line(&mut paper, refusal),
     }
-    put_cores(out, loaded.table)
+    paper
 }
 
 // Prints the sheet of a file: worked out first, and written only where it fits.
 pub fn sheet(bytes: &[u8], out: &mut [u8]) -> Written
     ensures { Prints bytes.now out.old result out.new }
 {
-    let mut text = [0u8; 29842];
-    let n = put_sheet(&mut text, bytes);
-    files::write_bytes(&text[..n], out)
+    files::write_bytes(sheet_of(bytes).as_slice(), out)
 }

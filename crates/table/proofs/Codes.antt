@@ -1,12 +1,13 @@
 -- Laws of verdicts: the first fault decides. Assumes nothing.
 use Prim.Native.Nat.{ℕ}
 use borrow.Author.Tests.{eq-eqb, ne_eqb}
-use mathlib.Core.Path.{◌≡◌, sym, ◌∙◌}
+use mathlib.Core.Path.{◌≡◌, ◌∙◌}
 use mathlib.Core.Bool.{true, false}
 use lib.Dec.{eqb→eq}
+use Rattle.std.specs.Prelude.{Ok, Err}
 use Rattle.lists.proofs.Tests.{by_test}
 use Rattle.table.specs.declared.Verdict.{Verdict}
-use Rattle.table.specs.Verdicts.{code_of, good, ◌or_else◌}
+use Rattle.table.specs.Verdicts.{code_of, good, ◌or_else◌, judged}
 
 -- code 0 is good, and no other
 pub is_good : (v : Verdict) → code_of v ≡ 0 → good v ≡ true
@@ -42,14 +43,31 @@ pub or_assoc : (u v w : Verdict) → u or_else (v or_else w) ≡ (u or_else v) o
 unfolding ◌or_else◌
 or_assoc u v w = by_test (good u) (λ e. rw e) (λ e. rw (e, e))
 
--- where the code k of a verdict is asked for: a fault stays, and after none the next decides
-module _ {v x : Verdict} {k : ℕ} (same : v ≡ x) (code : k ≡ code_of v) where
-  -- a fault stays
-  pub fault_stays : (w : Verdict) → (k ≡ 0 → ⊥) → v ≡ x or_else w
-  unfolding ◌or_else◌
-  fault_stays w h = rw (← same, is_fault v (λ e. h (code ∙ e)))
+-- where the code k of a verdict is asked for, a fault stays
+pub fault_stays : {v x : Verdict} {k : ℕ} → v ≡ x → k ≡ code_of v → (w : Verdict) → (k ≡ 0 → ⊥) → v ≡ x or_else w
+unfolding ◌or_else◌
+fault_stays {v} same code w h = rw (← same, is_fault v (λ e. h (code ∙ e)))
 
-  -- after none the next decides
-  pub next_decides : {w y : Verdict} → k ≡ 0 → y ≡ w → y ≡ x or_else w
+-- ---- as a check answers
+
+module _ (v : Verdict) where
+  -- it passes a good verdict
+  pub passed : {u : Unit {0}} → Ok u ≡ judged v → good v ≡ true
+  unfolding judged
+  passed {u} e = by_test (good v) (λ t. t) (λ f. let no : Ok u ≡ Err v = e ∙ rw f in cc)
+
+  -- and refuses another
+  pub refused : {r : Verdict} → Err r ≡ judged v → (good v ≡ false) × (r ≡ v)
+  unfolding judged
+  refused {r} e =
+      by_test (good v) (λ t. let no : Err r ≡ Ok tt = e ∙ rw t in cc) (λ f. (f, let same : Err r ≡ Err v = e ∙ rw f in cc))
+
+  -- a refusal stays
+  pub refusal_stays : (w : Verdict) {r : Verdict} → Err r ≡ judged v → Err r ≡ judged (v or_else w)
   unfolding ◌or_else◌
-  next_decides e f = rw (← same, is_good v (sym code ∙ e)) f
+  refusal_stays w e = rw ((refused e).0) e
+
+  -- after none comes the next
+  pub next_decides : (w : Verdict) {u : Unit {0}} → Ok u ≡ judged v → v or_else w ≡ w
+  unfolding ◌or_else◌
+  next_decides w e = rw (passed e)

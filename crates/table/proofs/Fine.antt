@@ -9,7 +9,8 @@ use lib.ListN.{length}
 use Rattle.lists.proofs.Tests.{either}
 use Rattle.table.specs.declared.Verdict.TheVariants.{Good}
 use Rattle.table.specs.Verdicts.{code_of}
-use Rattle.table.specs.Fields.{Wanted, judge, fault_in}
+use Rattle.table.specs.declared.Wanted.{Wanted}
+use Rattle.table.specs.Fields.{judge, fault_in}
 use Rattle.table.proofs.Codes.{or-good, first_good, then_good}
 
 -- a number that is what it may be

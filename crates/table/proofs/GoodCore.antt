@@ -21,7 +21,7 @@ use Rattle.model.specs.Bounds.{on_core}
 use Rattle.model.proofs.Rows.{same_row}
 use Rattle.model.proofs.Cores.{core-good}
 use Rattle.table.specs.declared.Row.{Row}
-use Rattle.table.specs.declared.Rule.TheVariants as R
+use Rattle.table.specs.Rules as R
 use Rattle.table.specs.declared.Table.{Table}
 use Rattle.table.specs.Verdicts.{code_of}
 use Rattle.table.specs.Memory.{row_of, tasks_of, rows_of}
@@ -29,9 +29,8 @@ use Rattle.table.specs.Clash.{coop_above, breaks, broken, clash_of}
 use Rattle.table.specs.Faults.{fault_of}
 use Rattle.table.proofs.Codes.{first_good, then_good}
 use Rattle.table.proofs.Stored.{times-count}
-use Rattle.table.proofs.GoodTasks.{tasks-good}
+use Rattle.table.proofs.GoodTasks.{times_fit, tasks-good}
 use Rattle.table.proofs.EachGood.{each-good}
-use Rattle.table.proofs.Ahead.{good_ahead}
 use Rattle.table.proofs.NoClash.{Apart, apart_two, rule_holds}
 
 -- two rows of a core have one core
@@ -123,5 +122,5 @@ pub core-fits : (t : Table) → length t.rows ≡ 64 → length t.times ≡ 1024
     → (c : ℕ) → total parts (on_core c (tasks_of t)) ≤ 1024
 unfolding on_core
 core-fits t rows times e c =
-    let all = (good_ahead t rows times e).room in
+    let all = times_fit 0 (tasks_of t) (omega arith) (tasks-good t rows times e).fine in
     omega (arith, keep-total parts (λ u. eqb u.core c) (tasks_of t), times-count (tasks_of t))

@@ -2,24 +2,11 @@
 use Prim.Native.Nat.{ℕ, ◌+◌, ◌≤◌}
 use native.Mathlib.Omega.{arith}
 use mathlib.Core.Path.{◌≡◌, refl}
-use mathlib.Core.List.{List, [], ◌∷◌, ◌++◌}
 use Rattle.model.specs.Rows.{Within}
 use Rattle.table.specs.declared.Row.{Row}
 use Rattle.table.specs.Verdicts.{code_of}
-use Rattle.table.specs.Fields.{field, head, part_count, wanted, fields_of, fault_in}
+use Rattle.table.specs.Fields.{field, head, fields_of, fault_in}
 use Rattle.table.proofs.Fine.{Fine, AllFine, good-all}
-
--- the ranges of the fields before the part count, as the code's constants have them
-unfoldable pub lows : List ℕ
-lows = 1 ∷ 0 ∷ 0 ∷ 1 ∷ 1 ∷ 1 ∷ []
-
-unfoldable pub highs : List ℕ
-highs = 65535 ∷ 3 ∷ 1 ∷ 255 ∷ 16777215 ∷ 16777215 ∷ []
-
--- first these, then the part count
-pub head_split : (used : ℕ) → head used ≡ wanted lows highs ++ (part_count used ∷ [])
-unfolding head wanted lows highs
-head_split used = refl
 
 -- a row whose fields are in their ranges, with `used` times before it
 pub record GoodHead (used : ℕ) (r : Row) : Type 0 where

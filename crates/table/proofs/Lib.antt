@@ -8,7 +8,7 @@ pub mod Rows
 pub mod Stored
 pub mod GoodTasks
 pub mod EachGood
-pub mod Ahead
+pub mod Walk
 pub mod Laid
 pub mod Seven
 pub mod NoClash

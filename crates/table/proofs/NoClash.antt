@@ -11,8 +11,8 @@ use lib.ListN.{length}
 use Rattle.lists.specs.Lists.{◌∈◌, any}
 use Rattle.lists.proofs.Tests.{by_test, never, either}
 use Rattle.table.specs.declared.Row.{Row}
-use Rattle.table.specs.declared.Rule.{Rule}
-use Rattle.table.specs.declared.Rule.TheVariants as R
+use Rattle.table.specs.Rules.{Rule}
+use Rattle.table.specs.Rules as R
 use Rattle.table.specs.Verdicts.{code_of}
 use Rattle.table.specs.Clash.{breaks, clash_after, clash, rule_verdict, broken}
 

@@ -9,15 +9,16 @@ use lib.Dec.{ltb}
 use Rattle.lists.specs.Lists.{pick}
 use Rattle.lists.proofs.Tests.{never}
 use Rattle.table.specs.declared.Row.{Row}
-use Rattle.table.specs.declared.Rule.{Rule}
-use Rattle.table.specs.declared.Rule.TheVariants as R
+use Rattle.table.specs.Rules.{Rule}
+use Rattle.table.specs.Rules as R
 use Rattle.table.specs.declared.Table.{Table}
 use Rattle.table.specs.declared.Verdict.{Verdict}
 use Rattle.table.specs.declared.Verdict.TheVariants.{Good, EndsEarly, Malformed, OutOfRange, IdTwice, PriorityTwice}
 use Rattle.table.specs.declared.Verdict.TheVariants.{KindsCrossed, TooManyTimes, Trailing, NoSuchCore, NoRoom, NoWindow, Missed}
 use Rattle.table.specs.declared.Verdict.TheVariants.{UnknownStep, BadText}
 use Rattle.table.specs.Verdicts.{code_of, good, reading, ◌or_else◌}
-use Rattle.table.specs.Fields.{Wanted, head, time, fields_of, judge, fault_in}
+use Rattle.table.specs.declared.Wanted.{Wanted}
+use Rattle.table.specs.Fields.{head, time, fields_of, judge, fault_in}
 use Rattle.table.specs.Memory.{used_rows}
 use Rattle.table.specs.Clash.{breaks, clash, rule_verdict, broken, clash_of}
 use Rattle.table.specs.Faults.{row_fault, rows_fault, fault_of}

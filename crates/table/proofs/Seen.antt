@@ -14,8 +14,8 @@ use Rattle.lists.proofs.Anys.{any_snoc}
 use Rattle.lists.proofs.Tests.{by_test, never, either, not_below}
 use Rattle.table.specs.declared.Marks.{Marks}
 use Rattle.table.specs.declared.Row.{Row}
-use Rattle.table.specs.declared.Rule.{Rule}
-use Rattle.table.specs.declared.Rule.TheVariants as R
+use Rattle.table.specs.Rules.{Rule}
+use Rattle.table.specs.Rules as R
 use Rattle.table.specs.Clash.{breaks, coop_above}
 use Rattle.table.specs.Promises.{Placed, slot_of, crosses_marks, marks_with}
 

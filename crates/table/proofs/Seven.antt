@@ -5,7 +5,8 @@ use mathlib.Core.Path.{◌≡◌, refl, sym, ap, ◌∙◌}
 use mathlib.Core.List.{List, [], ◌∷◌}
 use lib.ListN.{length, get_or, drop, drop_of_length-le}
 use lib.Seq.{drop-cons}
-use Rattle.table.specs.Fields.{Wanted, head, row_from, fields_of}
+use Rattle.table.specs.declared.Wanted.{Wanted}
+use Rattle.table.specs.Fields.{head, row_from, fields_of}
 use Rattle.table.proofs.Fine.{AllFine}
 
 -- fine numbers are as many as are wanted

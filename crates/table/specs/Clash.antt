@@ -2,8 +2,8 @@
 use Rattle.std.specs.Prelude.{ℕ, zero, suc, Bool, ◌&&◌, ◌||◌, List, [], ◌∷◌, ◌++◌, length, eqb, ltb}
 use Rattle.lists.specs.Lists.{pick, any}
 use Rattle.table.specs.declared.Row.{Row}
-use Rattle.table.specs.declared.Rule.{Rule}
-use Rattle.table.specs.declared.Rule.TheVariants as R
+use Rattle.table.specs.Rules.{Rule}
+use Rattle.table.specs.Rules as R
 use Rattle.table.specs.declared.Verdict.{Verdict}
 use Rattle.table.specs.declared.Verdict.TheVariants.{Good, IdTwice, PriorityTwice, KindsCrossed}
 use Rattle.table.specs.Verdicts.{◌or_else◌}

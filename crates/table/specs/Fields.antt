@@ -1,17 +1,13 @@
 -- Document 01, "The table": the fields of a row in file order, and what each may be.
-use Rattle.std.specs.Prelude.{ℕ, ◌-◌, ◌||◌, ◌≡◌, List, [], ◌∷◌, length, get_or, ltb}
+use Rattle.std.specs.Prelude.{ℕ, ◌-◌, ◌||◌, List, [], ◌∷◌, get_or, ltb}
 use Rattle.lists.specs.Lists.{pick}
 use Rattle.table.specs.declared.Row.{Row}
+use Rattle.table.specs.declared.Wanted.{Wanted}
 use Rattle.table.specs.declared.Verdict.{Verdict}
 use Rattle.table.specs.declared.Verdict.TheVariants.{Good, OutOfRange, TooManyTimes}
 use Rattle.table.specs.Verdicts.{◌or_else◌}
 
 -- what a number may be: from low to high, else code 3; and no more than are left, else code 7
-pub record Wanted : Type 0 where
-  pub low : ℕ
-  pub high : ℕ
-  pub left : ℕ
-
 abbrev pub want : ℕ → ℕ → ℕ → Wanted
 want low high left = record { low = low; high = high; left = left }
 
@@ -54,17 +50,6 @@ row_from fields =
 
 abbrev pub fields_of : Row → List ℕ
 fields_of r = r.id ∷ r.core ∷ r.kind ∷ r.priority ∷ r.period ∷ r.deadline ∷ r.parts ∷ []
-
--- plain fields as the code has them: two lists
-unfoldable pub wanted : List ℕ → List ℕ → List Wanted
-wanted (l ∷ ls) (h ∷ hs) = field l h ∷ wanted ls hs
-wanted [] hs = []
-wanted (l ∷ ls) [] = []
-
--- n of each
-pub record LowsHighs (n : ℕ) (low high : List ℕ) : Type 0 where
-  pub lows : length low ≡ n
-  pub highs : length high ≡ n
 
 -- a number's own fault: 3, then 7; each carries the number given
 unfoldable pub judge : Wanted → ℕ → ℕ → Verdict

@@ -1,5 +1,5 @@
 -- Document 01, "Codes and what they leave", and 02, §1 and §4: the code of each verdict and the number carried.
-use Rattle.std.specs.Prelude.{ℕ, Bool, true, false, eqb}
+use Rattle.std.specs.Prelude.{ℕ, Bool, true, false, eqb, Result, Ok, Err}
 use Rattle.lists.specs.Lists.{pick}
 use Rattle.table.specs.declared.Verdict.{Verdict}
 use Rattle.table.specs.declared.Verdict.TheVariants.{Good, EndsEarly, Malformed, OutOfRange, IdTwice, PriorityTwice}
@@ -66,3 +66,10 @@ unfoldable pub ◌or_else◌ : Verdict → Verdict → Verdict
 v or_else w = pick (good v) w v
 
 infixr 20 ◌or_else◌
+-- a check's answer: nothing where the verdict is good, else the refusal; and what it says
+unfoldable pub judged : Verdict → Result Unit Verdict
+judged v = pick (good v) (Ok tt) (Err v)
+
+abbrev pub said : Result Unit Verdict → Verdict
+said (Ok _) = Good
+said (Err v) = v

@@ -1,6 +1,6 @@
 -- Document 01, "Codes and what they leave": what writing bytes into lent room answers and leaves, whatever they are.
 -- `fault` is what stands against writing, `new` the bytes to write, `out` the room as it was.
-use Rattle.std.specs.Prelude.{ℕ, ◌≡◌, List, length, ltb}
+use Rattle.std.specs.Prelude.{ℕ, ◌≡◌, List, length, ltb, Result, Ok, Err}
 use Rattle.lists.specs.Lists.{pick, over}
 use Rattle.table.specs.declared.Verdict.{Verdict}
 use Rattle.table.specs.declared.Verdict.TheVariants.{Good, NoRoom}
@@ -14,6 +14,11 @@ verdict_on fault new room = fault or_else pick (ltb room (length new)) (NoRoom (
 -- a refusal writes nothing
 abbrev pub none_written : Verdict → Written
 none_written v = record { verdict = v; count = 0 }
+
+-- what is answered for so many bytes written, or for a refusal
+abbrev pub written_by : Result ℕ Verdict → Written
+written_by (Ok n) = record { verdict = Good; count = n }
+written_by (Err v) = none_written v
 
 -- the answer also says how many bytes were written, 0 when refused
 unfoldable pub answer_on : Verdict → List ℕ → ℕ → Written

@@ -1,16 +1,20 @@
 // The task table in memory, the verdicts with their codes and numbers, and what can stand against a table: its own faults and clashes.
 #![tactic(auto)]
 
-ghost use Rattle.std.specs.Prelude.{◌≡◌, [], ◌≤◌, min, length, take, drop, replicate};
-ghost use Rattle.table.specs.Verdicts.{code_of, number_of};
-ghost use Rattle.table.specs.Fields.{head, time, want, wanted, LowsHighs, judge, fault_in, fields_of, row_from};
+ghost use Rattle.std.specs.Prelude.{◌≡◌, [], ◌≤◌, length, Bool, Ok, Err, MatchResult};
+ghost use Rattle.table.specs.declared.Row.{Row};
+ghost use Rattle.table.specs.Verdicts.{code_of, number_of, said, judged};
+ghost use Rattle.table.specs.Fields.{head, judge, fault_in, fields_of, row_from};
 ghost use Rattle.table.specs.Memory.{stored, used_rows};
-ghost use Rattle.table.specs.Clash.{breaks, coop_above, clash, clash_of};
-ghost use Rattle.table.specs.Promises.{FirstsOf, Decides, Placed, slot_of, crosses_marks, marks_with, first_crossed};
-ghost use Rattle.table.specs.Written.{none_written};
-ghost use Rattle.table.specs.Faults.{row_fault, rows_fault, fault_of};
+ghost use Rattle.table.specs.Rules as R;
+ghost use Rattle.table.specs.Clash.{breaks, coop_above, clash_of};
+ghost use Rattle.table.specs.Promises.{Computes, FirstsOf, IsSlot, crosses_marks, marks_with, first_of, row_fault_at};
+ghost use Rattle.table.specs.Written.{written_by};
+ghost use Rattle.table.specs.Faults.{rows_fault, fault_of};
 
-// One row of the table; its times stand apart.
+use std::fmt;
+
+// One row of the table; its times stand apart. Its kind is a number: in memory it may be any, and `fault_of` judges it.
 #[derive(Clone, Copy)]
 pub struct Row {
     pub id: u32,
@@ -22,7 +26,42 @@ pub struct Row {
     pub parts: u32,
 }
 
-// The table: `count` rows are used, and their times stand one after another.
+// The row of these fields, in file order.
+impl From<[u32; 7]> for Row {
+    ghost from_gives = { λ fields row. row ≡ row_from fields };
+
+    fn from(fields: [u32; 7]) -> Row {
+        let [id, core, kind, priority, period, deadline, parts] = fields;
+        Row {
+            id,
+            core,
+            kind,
+            priority,
+            period,
+            deadline,
+            parts,
+        }
+    }
+}
+
+// The fields of a row, in file order.
+impl From<Row> for [u32; 7] {
+    ghost from_gives = { λ row fields. fields ≡ fields_of row };
+
+    fn from(row: Row) -> [u32; 7] {
+        [
+            row.id,
+            row.core,
+            row.kind,
+            row.priority,
+            row.period,
+            row.deadline,
+            row.parts,
+        ]
+    }
+}
+
+// The table: `count` rows are used, and their times stand one after another (fixed memory, in the form that 01 names).
 #[derive(Clone, Copy)]
 pub struct Table {
     pub count: usize,
@@ -30,8 +69,9 @@ pub struct Table {
     pub times: [u32; 1024],
 }
 
-// What is said of a file, a core, a table, a text or a chain: the documents' codes, each with the number it carries.
-#[derive(Clone, Copy)]
+// What is said of a file, a core, a table, a text or a chain: the documents' codes, each with the number it carries. `Good` is among
+// them, since the documents' table of codes begins with it (`CodeTable`).
+#[derive(Clone, Copy, Debug, PartialEq, Eq)]
 pub enum Verdict {
     Good,
     EndsEarly(usize),
@@ -50,26 +90,160 @@ pub enum Verdict {
     BadText(usize),
 }
 
-// The verdict on writing bytes into lent room, and how many were written.
+impl Verdict {
+    // The code that the documents give for it.
+    pub fn code(self) -> u32
+        ensures { result ≡ code_of self }
+    {
+        match self {
+            Verdict::Good => 0,
+            Verdict::EndsEarly(_) => 1,
+            Verdict::Malformed(_) => 2,
+            Verdict::OutOfRange(_) => 3,
+            Verdict::IdTwice(_) => 4,
+            Verdict::PriorityTwice(_) => 5,
+            Verdict::KindsCrossed(_) => 6,
+            Verdict::TooManyTimes(_) => 7,
+            Verdict::Trailing(_) => 8,
+            Verdict::NoSuchCore(_) => 9,
+            Verdict::NoRoom(_) => 10,
+            Verdict::NoWindow(_) => 11,
+            Verdict::Missed(_) => 12,
+            Verdict::UnknownStep(_) => 16,
+            Verdict::BadText(_) => 17,
+        }
+    }
+
+    // The number that it carries.
+    pub fn number(self) -> usize
+        ensures { result ≡ number_of self }
+    {
+        match self {
+            Verdict::Good => 0,
+            Verdict::EndsEarly(n)
+            | Verdict::Malformed(n)
+            | Verdict::OutOfRange(n)
+            | Verdict::IdTwice(n)
+            | Verdict::PriorityTwice(n)
+            | Verdict::KindsCrossed(n)
+            | Verdict::TooManyTimes(n)
+            | Verdict::Trailing(n)
+            | Verdict::NoSuchCore(n)
+            | Verdict::NoRoom(n)
+            | Verdict::NoWindow(n)
+            | Verdict::Missed(n)
+            | Verdict::UnknownStep(n)
+            | Verdict::BadText(n) => n,
+        }
+    }
+}
+
+// The verdict of a check: good, or its refusal.
+impl From<Result<(), Verdict>> for Verdict {
+    ghost from_gives = { λ checked v. v ≡ said checked };
+
+    fn from(checked: Result<(), Verdict>) -> Verdict {
+        match checked {
+            Ok(()) => Verdict::Good,
+            Err(refusal) => refusal,
+        }
+    }
+}
+
+// `code C number N`.
+impl fmt::Display for Verdict {
+    fn fmt<W: fmt::Write>(&self, f: &mut fmt::Formatter<W>) -> fmt::Result {
+        write!(f, "code {} number {}", self.code(), self.number())
+    }
+}
+
+// The verdict on writing bytes into lent room, and how many were written: 0 under a refusal, which `WriteSays` holds.
 #[derive(Clone, Copy)]
 pub struct Written {
     pub verdict: Verdict,
     pub count: usize,
 }
 
-// The rules over two rows: codes 4, 5 and 6.
-#[derive(Clone, Copy)]
-pub enum Rule {
-    SameId,
-    SamePriority,
-    KindsCrossed,
+// What is answered for so many bytes written, or for a refusal: nothing was written.
+impl From<Result<usize, Verdict>> for Written {
+    ghost from_gives = { λ wrote answer. answer ≡ written_by wrote };
+
+    fn from(wrote: Result<usize, Verdict>) -> Written {
+        match wrote {
+            Ok(count) => Written {
+                verdict: Verdict::Good,
+                count,
+            },
+            Err(verdict) => Written { verdict, count: 0 },
+        }
+    }
 }
 
-// The first row that has 5; if none has, the first that has 6. Where no row has it, the number of rows.
+// What a number may be: from low to high, else code 3; and no more than are left, else code 7.
+#[derive(Clone, Copy)]
+pub struct Wanted {
+    pub low: u32,
+    pub high: u32,
+    pub left: u32,
+}
+
+impl Wanted {
+    // A number's own fault: 3, then 7, with the number that it carries.
+    pub fn judge(self, n: u32, carried: usize) -> Result<(), Verdict>
+        ensures { result ≡ judged (judge self carried n) }
+    {
+        if n < self.low || self.high < n {
+            return Err(Verdict::OutOfRange(carried));
+        }
+        if self.left < n {
+            return Err(Verdict::TooManyTimes(carried));
+        }
+        Ok(())
+    }
+}
+
+// A field that has a range and no more.
+fn field(low: u32, high: u32) -> Wanted
+    ensures { result ≡ record { low = low; high = high; left = high } }
+{
+    Wanted {
+        low,
+        high,
+        left: high,
+    }
+}
+
+// The fields before a row's times, in file order, with `used` of the 1,024 times taken before it.
+pub fn head(used: u32) -> [Wanted; 7]
+    ensures { result ≡ head used }
+{
+    [
+        field(1, 65535), // id
+        field(0, 3), // core
+        field(0, 1), // type: 0 preemptive, 1 cooperative
+        field(1, 255), // priority
+        field(1, 16777215), // period
+        field(1, 16777215), // deadline
+        Wanted {
+            low: 1,
+            high: 64,
+            left: 1024u32.saturating_sub(used),
+        }, // part count
+    ]
+}
+
+// One worst time.
+pub const TIME: Wanted = Wanted {
+    low: 1,
+    high: 16777215,
+    left: 16777215,
+};
+
+// The first row that has 5; and if none has, the first that has 6.
 #[derive(Drop)]
 struct Firsts {
-    twice: usize,
-    crossed: usize,
+    twice: Option<usize>,
+    crossed: Option<usize>,
 }
 
 // What is kept of a core's rows: the lowest preemptive and the highest cooperative priority.
@@ -79,271 +253,90 @@ struct Marks {
     highest: u32,
 }
 
-// The code that the documents give for a verdict.
-pub fn code_of(v: Verdict) -> u32
-    ensures { result ≡ code_of v }
-{
-    match v {
-        Verdict::Good => 0,
-        Verdict::EndsEarly(_) => 1,
-        Verdict::Malformed(_) => 2,
-        Verdict::OutOfRange(_) => 3,
-        Verdict::IdTwice(_) => 4,
-        Verdict::PriorityTwice(_) => 5,
-        Verdict::KindsCrossed(_) => 6,
-        Verdict::TooManyTimes(_) => 7,
-        Verdict::Trailing(_) => 8,
-        Verdict::NoSuchCore(_) => 9,
-        Verdict::NoRoom(_) => 10,
-        Verdict::NoWindow(_) => 11,
-        Verdict::Missed(_) => 12,
-        Verdict::UnknownStep(_) => 16,
-        Verdict::BadText(_) => 17,
-    }
-}
-
-// The number that a verdict carries.
-pub fn number_of(v: Verdict) -> usize
-    ensures { result ≡ number_of v }
-{
-    match v {
-        Verdict::Good => 0,
-        Verdict::EndsEarly(n)
-        | Verdict::Malformed(n)
-        | Verdict::OutOfRange(n)
-        | Verdict::IdTwice(n)
-        | Verdict::PriorityTwice(n)
-        | Verdict::KindsCrossed(n)
-        | Verdict::TooManyTimes(n)
-        | Verdict::Trailing(n)
-        | Verdict::NoSuchCore(n)
-        | Verdict::NoRoom(n)
-        | Verdict::NoWindow(n)
-        | Verdict::Missed(n)
-        | Verdict::UnknownStep(n)
-        | Verdict::BadText(n) => n,
-    }
-}
-
-// What refused writing answers: nothing was written.
-pub fn refused(v: Verdict) -> Written
-    ensures { result ≡ none_written v }
-{
-    Written {
-        verdict: v,
-        count: 0,
-    }
-}
-
-// The fields of a row before its part count, in file order: the least value of each.
-pub const LOW: [u32; 6] = [
-    1, // id
-    0, // core
-    0, // type: 0 preemptive, 1 cooperative
-    1, // priority
-    1, // period
-    1, // deadline
-];
-
-// The largest value of each.
-pub const HIGH: [u32; 6] = [
-    65535, // id
-    3, // core
-    1, // type
-    255, // priority
-    16777215, // period
-    16777215, // deadline
-];
-
-// The fields of a row, in file order.
-pub fn fields_of(row: Row) -> [u32; 7]
-    ensures { result ≡ fields_of row }
-{
-    [
-        row.id,
-        row.core,
-        row.kind,
-        row.priority,
-        row.period,
-        row.deadline,
-        row.parts,
-    ]
-}
-
-// The row of these fields.
-pub fn row_of(fields: [u32; 7]) -> Row
-    ensures { result ≡ row_from fields }
-{
-    Row {
-        id: fields[0],
-        core: fields[1],
-        kind: fields[2],
-        priority: fields[3],
-        period: fields[4],
-        deadline: fields[5],
-        parts: fields[6],
-    }
-}
-
-// A number's own fault: 3, then 7, with the number that it carries.
-pub fn number_fault(n: u32, low: u32, high: u32, left: u32, carried: usize) -> Verdict
-    ensures { result ≡ judge (want low high left) carried n }
-{
-    if n < low {
-        return Verdict::OutOfRange(carried);
-    }
-    if high < n {
-        return Verdict::OutOfRange(carried);
-    }
-    if left < n {
-        return Verdict::TooManyTimes(carried);
-    }
-    Verdict::Good
-}
-
-// A table with no rows: all zeros.
-pub fn zeros() -> Table
-    ensures { result ≡ stored [] }
-{
-    let row = row_of([0u32; 7]);
-    let rows = [row; 64];
-    let times = [0u32; 1024];
-    Table {
-        count: 0,
-        rows,
-        times,
-    }
-}
-
-// How many rows there are to look at: at most 64, whatever the count says.
-fn rows_used(count: usize) -> usize
-    ensures { result ≡ min count 64 }
-{
-    if 64 < count {
-        return 64;
-    }
-    count
-}
-
 // Whether the first row is cooperative, the second preemptive, and the first higher.
-fn coop_above(a: Row, b: Row) -> bool
-    ensures { result ≡ coop_above a b }
+fn coop_above(a: &Row, b: &Row) -> bool
+    ensures { result ≡ coop_above a.now b.now }
 {
-    // in this order the compiler keeps the rule's test out of the loop that compares rows
-    if b.kind == 0 {
-        if a.kind == 1 {
-            return b.priority < a.priority;
-        }
-    }
-    false
+    a.kind == 1 && b.kind == 0 && b.priority < a.priority
 }
 
-// Whether a row breaks a rule with an earlier one.
-fn breaks_rule(rule: Rule, row: Row, earlier: Row) -> bool
-    ensures { result ≡ breaks rule row earlier }
+// The first row that breaks a rule with an earlier one.
+fn first_clash<F: Fn(&Row, &Row) -> bool>(rows: &[Row], breaks: F) -> Option<usize>
+    requires { F.IsAlwaysCallable breaks }
+    ensures { (f : Row → Row → Bool) → Computes F.Fn breaks f → result ≡ first_of f rows.now }
 {
-    match rule {
-        Rule::SameId => earlier.id == row.id,
-        Rule::SamePriority => earlier.core == row.core && earlier.priority == row.priority,
-        Rule::KindsCrossed => {
-            if earlier.core == row.core {
-                if coop_above(row, earlier) {
-                    return true;
-                }
-                return coop_above(earlier, row);
-            }
-            false
-        }
-    }
-}
-
-// The first of n rows that breaks a rule with an earlier one, or n where there is none.
-fn first_clash(rows: [Row; 64], n: usize, rule: Rule) -> usize
-    requires { n ≤ 64 }
-    ensures { result ≡ clash (breaks rule) (take n rows) }
-{
-    let mut i = 0;
-    'rows: while i < n {
-        let row = rows[i];
-        let mut j = 0;
-        while j < i {
-            let earlier = rows[j];
-            if breaks_rule(rule, row, earlier) {
+    let mut first = None;
+    'rows: for (i, row) in rows.iter().enumerate() {
+        for earlier in &rows[..i] {
+            if breaks(row, earlier) {
+                first = Some(i);
                 break 'rows;
             }
-            j += 1;
-        }
-        i += 1;
-    }
-    i
-}
-
-// Whether a row has a place among slots and marks, as every row of a file has.
-fn has_place(row: Row) -> bool
-    ensures { Decides result (Placed row) }
-{
-    if 3 < row.core {
-        return false;
-    }
-    if 1 < row.kind {
-        return false;
-    }
-    if 255 < row.priority {
-        return false;
-    }
-    true
-}
-
-// The slot of a row's core and priority, 256 a core.
-fn slot_of(row: Row) -> usize
-    requires { Placed row }
-    ensures { result ≡ slot_of row }
-{
-    row.core as usize * 256 + row.priority as usize
-}
-
-// Whether a row crosses kinds by the marks of its core.
-fn crosses_marks(row: Row, marks: Marks) -> bool
-    ensures { result ≡ crosses_marks row marks }
-{
-    if row.kind == 0 {
-        return row.priority < marks.highest;
-    }
-    marks.lowest < row.priority
-}
-
-// The marks of a core with a row more.
-fn marks_with(row: Row, marks: Marks) -> Marks
-    ensures { result ≡ marks_with row marks }
-{
-    if row.kind == 0 {
-        return Marks {
-            lowest: lists::smaller(marks.lowest, row.priority),
-            highest: marks.highest,
-        };
-    }
-    Marks {
-        lowest: marks.lowest,
-        highest: lists::larger(marks.highest, row.priority),
-    }
-}
-
-// The first row that crosses kinds of the rows up to row i: `before`, or row i where it crosses and is the smaller.
-fn first_crossed(before: usize, crosses: bool, i: usize) -> usize
-    ensures { result ≡ first_crossed before crosses i }
-{
-    if crosses {
-        if i < before {
-            return i;
         }
     }
-    before
+    first
 }
 
-// 5 and 6 of n rows in one pass, by a slot for each core and priority and two marks for each core, if every row has a place there.
-fn priority_clashes(rows: [Row; 64], n: usize) -> Firsts
-    requires { n ≤ 64 }
-    ensures { FirstsOf (take n rows) result }
+// The slot of a row's core and priority, 256 a core. Every row of a file has one.
+fn slot_of(row: &Row) -> Option<usize>
+    ensures { IsSlot row.now result }
+{
+    if 3 < row.core || 1 < row.kind || 255 < row.priority {
+        return None;
+    }
+    Some(row.core as usize * 256 + row.priority as usize)
+}
+
+impl Marks {
+    // Whether a row crosses kinds by the marks of its core.
+    fn crossed_by(self, row: &Row) -> bool
+        ensures { result ≡ crosses_marks row.now self }
+    {
+        if row.kind == 0 {
+            return row.priority < self.highest;
+        }
+        self.lowest < row.priority
+    }
+
+    // The marks of a core with a row more.
+    fn with(self, row: &Row) -> Marks
+        ensures { result ≡ marks_with row.now self }
+    {
+        if row.kind == 0 {
+            return Marks {
+                lowest: self.lowest.min(row.priority),
+                highest: self.highest,
+            };
+        }
+        Marks {
+            lowest: self.lowest,
+            highest: self.highest.max(row.priority),
+        }
+    }
+}
+
+// Whether the first row crosses kinds with an earlier one.
+fn crossed(row: &Row, earlier: &Row) -> bool
+    ensures { result ≡ breaks R.KindsCrossed row.now earlier.now }
+{
+    earlier.core == row.core && (coop_above(row, earlier) || coop_above(earlier, row))
+}
+
+// 5 and 6 where some row has no slot, as no file has it: every two rows are compared.
+fn compared_clashes(rows: &[Row]) -> Firsts
+    ensures { FirstsOf rows.now result }
+{
+    Firsts {
+        twice: first_clash(rows, |row, earlier| {
+            earlier.core == row.core && earlier.priority == row.priority
+        }),
+        crossed: first_clash(rows, crossed),
+    }
+}
+
+// 5 and 6 in one pass, by a slot for each core and priority and two marks for each core.
+fn priority_clashes(rows: &[Row]) -> Firsts
+    ensures { FirstsOf rows.now result }
 {
     let unmet = Marks {
         lowest: 256,
@@ -351,139 +344,132 @@ fn priority_clashes(rows: [Row; 64], n: usize) -> Firsts
     };
     let mut taken = [false; 1024];
     let mut marks = [unmet; 4];
-    let mut crossed = n;
-    let mut i = 0;
-    while i < n {
-        let row = rows[i];
-        if !has_place(row) {
-            // no file has such a row: every two rows are compared
-            return Firsts {
-                twice: first_clash(rows, n, Rule::SamePriority),
-                crossed: first_clash(rows, n, Rule::KindsCrossed),
-            };
-        }
-        let slot = slot_of(row);
+    let mut crossed = None;
+    for (i, row) in rows.iter().enumerate() {
+        let Some(slot) = slot_of(row) else {
+            return compared_clashes(rows);
+        };
         if taken[slot] {
-            return Firsts { twice: i, crossed };
+            return Firsts {
+                twice: Some(i),
+                crossed,
+            };
         }
         taken[slot] = true;
         let core = row.core as usize;
         let kept = marks[core];
-        crossed = first_crossed(crossed, crosses_marks(row, kept), i);
-        marks[core] = marks_with(row, kept);
-        i += 1;
+        crossed = crossed.or(kept.crossed_by(row).then_some(i));
+        marks[core] = kept.with(row);
     }
-    Firsts { twice: n, crossed }
-}
-
-// The rules over the whole table: 4, then 5, then 6.
-pub fn clash_of(t: Table) -> Verdict
-    ensures { result ≡ clash_of (used_rows t) }
-{
-    let n = rows_used(t.count);
-    let rows = t.rows;
-    let id = first_clash(rows, n, Rule::SameId);
-    if id < n {
-        return Verdict::IdTwice(id);
+    Firsts {
+        twice: None,
+        crossed,
     }
-    let first = priority_clashes(rows, n);
-    if first.twice < n {
-        return Verdict::PriorityTwice(first.twice);
-    }
-    if first.crossed < n {
-        return Verdict::KindsCrossed(first.crossed);
-    }
-    Verdict::Good
 }
 
 // The first fault of numbers one after another, each with its range.
-fn first_fault(numbers: &[u32], low: &[u32], high: &[u32], carried: usize) -> Verdict
-    requires { LowsHighs (length numbers.now) low.now high.now }
-    ensures { result ≡ fault_in (wanted low.now high.now) carried numbers.now }
+fn judge_all(numbers: &[u32], wanted: &[Wanted], carried: usize) -> Result<(), Verdict>
+    ensures { result ≡ judged (fault_in wanted.now carried numbers.now) }
 {
-    let mut i = 0;
-    while i < numbers.len() {
-        let most = high[i];
-        let v = number_fault(numbers[i], low[i], most, most, carried);
-        if code_of(v) != 0 {
-            return v;
+    for (n, one) in numbers.iter().zip(wanted) {
+        one.judge(*n, carried)?;
+    }
+    Ok(())
+}
+
+// The first fault of row i, whose times begin `rest`: those of the 1,024 that are left.
+fn judge_row(row: &Row, i: usize, rest: &[u32]) -> Result<(), Verdict>
+    requires { length rest.now ≤ 1024 }
+    ensures { result ≡ judged (row_fault_at i row.now rest.now) }
+{
+    let used = 1024 - rest.len() as u32;
+    judge_all(&<[u32; 7]>::from(*row), &head(used), i)?;
+    for time in &rest[..row.parts as usize] {
+        TIME.judge(*time, i)?;
+    }
+    Ok(())
+}
+
+impl Table {
+    // A table with no rows: all zeros.
+    pub fn zeros() -> Table
+        ensures { result ≡ stored [] }
+    {
+        let row = Row::from([0u32; 7]);
+        Table {
+            count: 0,
+            rows: [row; 64],
+            times: [0; 1024],
         }
-        i += 1;
     }
-    Verdict::Good
-}
 
-// The first fault of row i's fields before its times, with `used` times before it.
-fn head_fault(row: Row, used: u32, i: usize) -> Verdict
-    requires { used ≤ 1024 }
-    ensures { result ≡ fault_in (head used) i (fields_of row) }
-{
-    let fields = fields_of(row);
-    let low = LOW;
-    let high = HIGH;
-    let plain = first_fault(&fields[..6], &low, &high, i);
-    if code_of(plain) != 0 {
-        return plain;
+    // The rows that are used: at most 64, whatever the count says.
+    pub fn used_rows(&self) -> &[Row]
+        ensures { result.now ≡ used_rows self.now }
+    {
+        &self.rows[..self.count.min(64)]
     }
-    number_fault(row.parts, 1, 64, 1024 - used, i)
-}
 
-// The first fault of row i's times.
-fn times_fault(times: &[u32], i: usize) -> Verdict
-    requires { length times.now ≤ 64 }
-    ensures { result ≡ fault_in (replicate (length times.now) time) i times.now }
-{
-    let n = times.len();
-    let low = [1u32; 64];
-    let high = [16777215u32; 64];
-    first_fault(times, &low[..n], &high[..n], i)
-}
-
-// The first fault of row i, whose times begin at `used`.
-fn row_fault(row: Row, used: u32, i: usize, times: &[u32]) -> Verdict
-    requires { (used ≤ 1024) × (length times.now ≡ 1024) }
-    ensures { result ≡ row_fault i used row (drop used times.now) }
-{
-    let fields = head_fault(row, used, i);
-    if code_of(fields) != 0 {
-        return fields;
-    }
-    let a = used as usize;
-    let e = a + row.parts as usize;
-    times_fault(&times[a..e], i)
-}
-
-// The first fault of the rows, one by one.
-fn rows_fault(t: Table) -> Verdict
-    requires { t.count ≤ 64 }
-    ensures { result ≡ rows_fault 0 0 (used_rows t) t.times }
-{
-    let n = t.count;
-    let times = t.times;
-    let mut used: u32 = 0;
-    let mut i = 0;
-    while i < n {
-        let row = t.rows[i];
-        let v = row_fault(row, used, i, &times);
-        if code_of(v) != 0 {
-            return v;
+    // The first fault of the rows, one by one.
+    fn check_rows(&self) -> Result<(), Verdict>
+        ensures { result ≡ judged (rows_fault 0 0 (used_rows self.now) self.now.times) }
+    {
+        let mut rest = &self.times[..];
+        for (i, row) in self.used_rows().iter().enumerate() {
+            judge_row(row, i, rest)?;
+            rest = &rest[row.parts as usize..];
         }
-        used += row.parts;
-        i += 1;
+        Ok(())
     }
-    Verdict::Good
+
+    // The rules over the whole table: 4, then 5, then 6.
+    pub fn check_clashes(&self) -> Result<(), Verdict>
+        ensures { result ≡ judged (clash_of (used_rows self.now)) }
+    {
+        let rows = self.used_rows();
+        if let Some(i) = first_clash(rows, |row, earlier| earlier.id == row.id) {
+            return Err(Verdict::IdTwice(i));
+        }
+        let first = priority_clashes(rows);
+        if let Some(i) = first.twice {
+            return Err(Verdict::PriorityTwice(i));
+        }
+        if let Some(i) = first.crossed {
+            return Err(Verdict::KindsCrossed(i));
+        }
+        Ok(())
+    }
+
+    // What stands against writing it: its row count, its rows one by one, then the rules over all of it.
+    pub fn check(&self) -> Result<(), Verdict>
+        ensures { result ≡ judged (fault_of self.now) }
+    {
+        if 64 < self.count {
+            return Err(Verdict::OutOfRange(64));
+        }
+        self.check_rows()?;
+        self.check_clashes()
+    }
 }
 
-// What stands against writing a table: its row count, its rows one by one, then the rules over all of it.
-pub fn fault_of(t: Table) -> Verdict
-    ensures { result ≡ fault_of t }
-{
-    if 64 < t.count {
-        return Verdict::OutOfRange(64);
+// A table that nothing stands against.
+#[derive(Clone, Copy)]
+pub struct GoodTable {
+    pub table: Table,
+    ghost good: { code_of (fault_of table) ≡ 0 },
+    ghost all_rows: { length table.rows ≡ 64 },
+    ghost all_times: { length table.times ≡ 1024 },
+}
+
+impl TryFrom<Table> for GoodTable {
+    type Error = Verdict;
+
+    ghost try_from_gives = { λ t r. MatchResult r
+        (λ good. (judged (fault_of t) ≡ Ok tt) × (good.table ≡ t))
+        (λ refusal. judged (fault_of t) ≡ Err refusal) };
+
+    fn try_from(table: Table) -> Result<GoodTable, Verdict> {
+        table.check()?;
+        Ok(GoodTable { table })
     }
-    let rows = rows_fault(t);
-    if code_of(rows) != 0 {
-        return rows;
-    }
-    clash_of(t)
 }

@@ -1,132 +1,95 @@
 -- `analysis::core_bounds` meets its contract: the bounds of the rows seen stand in front, and the highest late row is kept.
-use Prim.Native.Nat.{ℕ, ◌+◌, ◌≤◌, ◌<◌}
+use Prim.Native.Nat.{◌+◌, ◌≤◌}
 use native.Mathlib.Omega.{arith}
-use borrow.Author.Rules.{rules}
-use mathlib.Core.Path.{◌≡◌, refl, sym, ◌∙◌}
+use mathlib.Core.Path.{◌≡◌, ap, ◌∙◌}
 use lib.ListN.{length, get_or}
-use Rattle.lists.proofs.Parts.{part_length}
 use Rattle.table.specs.Memory.{zero_row}
-use Rattle.analysis.proofs.Cored.{count_few}
-use Rattle.analysis.proofs.BoundsPut.{none_put, room_long, coming, parts_some, bounds_fit, window_there, bounding}
-use Rattle.analysis.proofs.BoundsPut.{put_long, put_next, late-next, early_next, all_put}
-use Rattle.analysis.proofs.core_bounds.Goals.{In-loop-i, then-row-room, else-row-room}
+use Rattle.cores.specs.Cores.{tasks_in}
+use Rattle.analysis.specs.Promises.{bounds_on}
+use Rattle.analysis.proofs.Cored.{Coming, coming, as_many}
+use Rattle.analysis.proofs.Tops.{said_none, said_some}
+use Rattle.analysis.proofs.BoundsPut.{none_put, lent, lent_fit, some_part, bounds_fit, bounding, room_long, late_next, early_next, all_put}
+use Rattle.analysis.proofs.core_bounds.Goals.{In-loop-i, After-split_at, After-bounds_of_row, then-row-room, else-row-room}
 use Rattle.analysis.proofs.core_bounds.Goals as goal
 
--- the times of a table in memory, by its type
-times_there : (c : In-loop-i) → length c.args.c.own.times ≡ 1024
-times_there c = search rules
+-- the row that the code comes to
+next : (c : In-loop-i) → Coming (tasks_in c.args.c.now) c.loop-i.i (get_or c.used_rows-row-items.result.now c.loop-i.i zero_row)
+next c = coming c.requires.core c.used_rows-row-items.ensures c.loop-i.i c.loop-i-test.true
 
-module _ (c : In-loop-i) where
-  -- the row's part count, as the code reads it
-  abbrev count : ℕ
-  count = (get_or c.args.c.own.rows c.loop-i.i zero_row).parts
+module _ (c : After-split_at) where
+  -- that row
+  abbrev row : Coming (tasks_in c.args.c.now) c.loop-i.i (get_or c.used_rows-row-items.result.now c.loop-i.i zero_row)
+  row = next (goal.at.After-split_at c).In-loop-i
 
-  -- row i is one of at most 64
-  few : c.loop-i.i < 64
-  few = omega (arith, c.loop-i-test.true, count_few c.requires.core)
+  -- its times are lent
+  own : c.split_at.result.0.now ≡ row.task.times
+  own = c.split_at.ensures.front ∙ lent c.requires c.loop-i.invariant row
 
-  -- its times have their place
-  times_fit : c.loop-i.a + count ≤ 1024
-  times_fit = (coming c.requires c.loop-i.invariant c.loop-i-test.true).room
+  -- and there is room for its bounds
+  fit : (c.loop-i.a + length c.split_at.result.0.now ≤ length c.args.room.now) × (c.loop-i.a + length c.split_at.result.0.now ≤ 1024)
+  fit =
+      let all = bounds_fit c.requires c.loop-i.invariant row in
+      (omega (arith, ap length own, c.requires.enough), omega (arith, ap length own, c.requires.core.fits))
 
-  -- so have its bounds
-  room_fit : c.loop-i.a + count ≤ length c.loop-i.room
-  room_fit =
-      let b = c.requires in
-      let s = c.loop-i.invariant in
-      omega (arith, bounds_fit b s c.loop-i-test.true, room_long b s)
-
-  -- it has a part
-  some : 1 ≤ count
-  some = parts_some c.requires c.loop-i.invariant c.loop-i-test.true
+-- its bounds are those that the row has
+put : (c : After-bounds_of_row)
+    → c.bounds_of_row.new.room
+    ≡ bounds_on c.args.c.now.asked.items c.loop-i.i (get_or c.args.windows.now c.loop-i.i 0) c.split_at.result.0.now
+put c = rw (c.bounds_of_row.ensures, c.as_slice.ensures.value)
 
 pub loop-i-init : goal.loop-i-init
 loop-i-init c = none_put c.requires
 
-pub bounds-windows-i : goal.bounds-windows-i
-bounds-windows-i c =
-    window_there c.requires c.loop-i.invariant c.loop-i-test.true
+pub split_at-requires : goal.split_at-requires
+split_at-requires c = lent_fit c.requires c.loop-i.invariant (next (goal.at.split_at-requires c).In-loop-i)
 
-pub slice_bounds-bounds_of_row-start : goal.slice_bounds-bounds_of_row-start
-slice_bounds-bounds_of_row-start c =
-    let l = (goal.at.slice_bounds-bounds_of_row-start c).In-loop-i in omega (arith, times_fit l, times_there l)
+pub overflow_add-e : goal.overflow_add-e
+overflow_add-e c = omega (arith, fit (goal.at.overflow_add-e c).After-split_at)
+
+pub offset_bounds-room-a : goal.offset_bounds-room-a
+offset_bounds-room-a c = omega (arith, fit (goal.at.offset_bounds-room-a c).After-split_at)
 
 pub slice_bounds-bounds_of_row-end : goal.slice_bounds-bounds_of_row-end
-slice_bounds-bounds_of_row-end c =
-    let l = (goal.at.slice_bounds-bounds_of_row-end c).In-loop-i in omega (arith, times_fit l, times_there l)
+slice_bounds-bounds_of_row-end c = omega (arith, fit (goal.at.slice_bounds-bounds_of_row-end c).After-split_at)
 
-pub bounds_of_row-requires : goal.bounds_of_row-requires
-bounds_of_row-requires c =
-    let l = (goal.at.bounds_of_row-requires c).In-loop-i in
-    let times : c.loop-i.a + count l ≤ length c.args.c.own.times = omega (arith, times_fit l, times_there l) in (
-      bounding c.requires c.loop-i.invariant c.loop-i-test.true,
-      part_length _ _ _ (room_fit l) ∙ sym (part_length _ _ _ times),
-    )
+pub bounds_of_row-requires-clause-bounding : goal.bounds_of_row-requires-clause-bounding
+bounds_of_row-requires-clause-bounding c =
+    let s = (goal.at.bounds_of_row-requires-clause-bounding c).After-split_at in
+    rw c.as_slice.ensures.value (bounding c.requires c.loop-i.invariant (row s) (own s))
+
+pub overflow_sub-e : goal.overflow_sub-e
+overflow_sub-e c =
+    let s = (goal.at.overflow_sub-e c).After-split_at in
+    omega (arith, ap length (own s), some_part c.requires c.loop-i.invariant (row s))
+
+pub offset_bounds-room-e : goal.offset_bounds-room-e
+offset_bounds-room-e c = omega (arith, fit (goal.at.offset_bounds-room-e c).After-split_at)
 
 pub bounds-room-e : goal.bounds-room-e
 bounds-room-e c =
-    let l = (goal.at.bounds-room-e c).In-loop-i in
-    let b = c.requires in
-    let s = c.loop-i.invariant in
-    let same = put_long b s c.loop-i-test.true _ c.bounds_of_row.ensures _ refl in
-    omega (arith, room_fit l, some l, room_long b s, same)
+    let s = (goal.at.bounds-room-e c).After-split_at in
+    let long = room_long c.requires c.loop-i.invariant (row s) (own s) (put (goal.at.bounds-room-e c).After-bounds_of_row) in
+    omega (arith, fit s, ap length (own s), some_part c.requires c.loop-i.invariant (row s))
 
 pub loop-i-preserved : goal.loop-i-preserved
 loop-i-preserved c =
-    let b = c.requires in
-    let s = c.loop-i.invariant in
-    let inside = c.loop-i-test.true in
-    let put = c.bounds_of_row.ensures in
-    put_next b s inside _ put _ refl _
-    (elim c.if-row-room.branch [
-      | then-row-room w ↦ w.top-is ∙ late-next b s inside _ put _ refl w.if-row-room.true _ w.higher_of-top.ensures
-      | else-row-room w ↦ w.top-is ∙ early_next b s inside _ put _ refl w.if-row-room.false
-    ])
+    let s = (goal.at.loop-i-preserved c).After-split_at in
+    let left = put (goal.at.loop-i-preserved c).After-bounds_of_row in
+    elim c.if-row-room.branch [
+      | then-row-room w ↦
+          late_next c.requires c.loop-i.invariant (row s) (own s) left (rw w.rest-is c.split_at.ensures.back) w.a-is w.if-row-room.true
+          (w.top-is ∙ w.higher_of-top.ensures)
+      | else-row-room w ↦
+          early_next c.requires c.loop-i.invariant (row s) (own s) left (rw w.rest-is c.split_at.ensures.back) w.a-is w.if-row-room.false
+          w.top-is
+    ]
 
-pub returns : goal.returns
-returns c = all_put c.requires c.loop-i.invariant c.loop-i-test.false
+pub returns-in-Some : goal.returns-in-Some
+returns-in-Some c =
+    all_put c.requires c.loop-i.invariant (omega (arith, as_many c.requires.core c.used_rows-row-items.ensures))
+    (said_some _ c.loop-i.invariant.named c.in-Some.is)
 
-pub offset_bounds-own-i : goal.offset_bounds-own-i
-offset_bounds-own-i c = omega (arith, few c)
-
-pub bounds-own-i : goal.bounds-own-i
-bounds-own-i c = few c
-
-pub overflow_add-e : goal.overflow_add-e
-overflow_add-e c = omega (arith, times_fit (goal.at.overflow_add-e c).In-loop-i)
-
-pub offset_bounds-windows-i : goal.offset_bounds-windows-i
-offset_bounds-windows-i c = omega (arith, few (goal.at.offset_bounds-windows-i c).In-loop-i)
-
-pub offset_bounds-times-a : goal.offset_bounds-times-a
-offset_bounds-times-a c = omega (arith, times_fit (goal.at.offset_bounds-times-a c).In-loop-i)
-
-pub slice_bounds-bounds_of_row-count : goal.slice_bounds-bounds_of_row-count
-slice_bounds-bounds_of_row-count c = omega (arith, times_fit (goal.at.slice_bounds-bounds_of_row-count c).In-loop-i)
-
-pub offset_bounds-room-a : goal.offset_bounds-room-a
-offset_bounds-room-a c = omega (arith, times_fit (goal.at.offset_bounds-room-a c).In-loop-i)
-
-pub slice_bounds-bounds_of_row-count-in-loop-i : goal.slice_bounds-bounds_of_row-count-in-loop-i
-slice_bounds-bounds_of_row-count-in-loop-i c = omega (arith, times_fit (goal.at.slice_bounds-bounds_of_row-count-in-loop-i c).In-loop-i)
-
-pub slice_bounds-bounds_of_row-start-in-loop-i : goal.slice_bounds-bounds_of_row-start-in-loop-i
-slice_bounds-bounds_of_row-start-in-loop-i c = omega (arith, room_fit (goal.at.slice_bounds-bounds_of_row-start-in-loop-i c).In-loop-i)
-
-pub slice_bounds-bounds_of_row-end-in-loop-i : goal.slice_bounds-bounds_of_row-end-in-loop-i
-slice_bounds-bounds_of_row-end-in-loop-i c = omega (arith, room_fit (goal.at.slice_bounds-bounds_of_row-end-in-loop-i c).In-loop-i)
-
-pub overflow_sub-e : goal.overflow_sub-e
-overflow_sub-e c = omega (arith, some (goal.at.overflow_sub-e c).In-loop-i)
-
-pub offset_bounds-room-e : goal.offset_bounds-room-e
-offset_bounds-room-e c = omega (arith, times_fit (goal.at.offset_bounds-room-e c).In-loop-i)
-
-pub overflow_add-i : goal.overflow_add-i
-overflow_add-i c = omega (arith, few (goal.at.overflow_add-i c).In-loop-i)
-
-pub loop-i-smaller : goal.loop-i-smaller
-loop-i-smaller c = omega (arith, c.loop-i-test.true)
-
-pub shape_of-room : goal.shape_of-room
-shape_of-room c = room_long c.requires c.loop-i.invariant
+pub returns-in-None : goal.returns-in-None
+returns-in-None c =
+    all_put c.requires c.loop-i.invariant (omega (arith, as_many c.requires.core c.used_rows-row-items.ensures))
+    (said_none _ c.loop-i.invariant.named c.in-None.is)

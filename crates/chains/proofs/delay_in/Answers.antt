@@ -1,52 +1,51 @@
 -- `chains::delay_in` meets its contract: the steps are found, the cores worked out, and what counts is summed. Assumes nothing.
 use borrow.Author.Rules.{rules}
-use mathlib.Core.Path.{◌≡◌, refl, sym, ◌∙◌}
-use lib.ListN.{length}
-use Rattle.table.specs.Verdicts.{code_of}
-use Rattle.table.proofs.Rows.{length_mapped}
-use Rattle.chains.proofs.Rows.{Sound}
+use mathlib.Core.Path.{◌≡◌}
+use mathlib.Core.List.{[]}
+use Rattle.std.specs.Prelude.{Ok, Err}
+use Rattle.std.proofs.lemmas.Result.{err_from_is_err_and}
+use Rattle.table.specs.Memory.{tasks_of}
+use Rattle.chains.specs.Chains.{links_at}
+use Rattle.chains.specs.declared.About.TheVariants as A
+use Rattle.chains.proofs.Rows.{sound}
 use Rattle.chains.proofs.Chained.{Chained, not_chained, chained, cores_there, core-refused, can_sum, chain_passes}
-use Rattle.chains.proofs.delay_in.Goals.{Else-code_of-ne0, Else-code_of-ne0-2}
+use Rattle.chains.proofs.delay_in.Goals.{In_ok-spots}
 use Rattle.chains.proofs.delay_in.Goals as goal
 
 -- all steps are found
-found : (c : Else-code_of-ne0) → Chained c.args.t c.args.l c.find_steps-found.result.spots
+found : (c : In_ok-spots)
+    → Chained c.args.t.now.table (links_at (tasks_of c.args.t.now.table) c.args.steps.now [] 0) c.in_ok-spots.spots.items
 found c =
-    let sound : Sound c.args.t = record { rows = search (rules, length_mapped); times = search rules; fine = c.requires.0 } in
-    let numbers : length c.args.l.numbers ≡ 64 = search rules in
-    let spots : length c.find_steps-found.result.spots ≡ 33 = search (rules, length_mapped) in
-    chained _ _ _ c.find_steps-found.ensures sound c.requires.1 numbers spots (sym c.code_of.ensures ∙ c.if-code_of-ne0.false)
+    let all : c.find_steps.result ≡ Ok c.in_ok-spots.spots = search rules in
+    chained (sound c.args.t.now) _ c.in_ok-spots.spots (rw all at c.find_steps.ensures)
 
--- every core passes
-fine : (c : Else-code_of-ne0-2) → code_of c.work_out_all-said.result.verdict ≡ 0
-fine c = sym c.code_of-2.ensures ∙ c.if-code_of-ne0-2.false
+pub returns-in_err-spots : goal.returns-in_err-spots
+returns-in_err-spots c =
+    let p = err_from_is_err_and c.from_residual.result c.from_residual.ensures.1 in
+    let e = c.in_err-spots.field-0.0 in
+    let of_list : e.about ≡ A.List = search rules in
+    let unknown : c.find_steps.result ≡ Err e.verdict = search rules in
+    rw (p.1, p.2, of_list) (not_chained _ _ e.verdict (rw unknown at c.find_steps.ensures))
 
--- the rooms are as long as they were
-rooms : (c : Else-code_of-ne0-2) → length c.work_out_all-said.new.rooms ≡ 4096
-rooms c = search rules
+pub work_out_all-requires : goal.work_out_all-requires
+work_out_all-requires c =
+    rw c.as_slice.ensures.value (cores_there (found (goal.at.work_out_all-requires c).In_ok-spots))
 
-pub returns-then-code_of-ne0 : goal.returns-then-code_of-ne0
-returns-then-code_of-ne0 c =
-    c.refused.ensures
-    ∙ not_chained c.args.t c.args.l c.find_steps-found.result c.find_steps-found.ensures
-    (λ z. c.if-code_of-ne0.true (c.code_of.ensures ∙ z))
-
-pub work_out_all-said-requires : goal.work_out_all-said-requires
-work_out_all-said-requires c =
-    (c.requires.0, cores_there (found (goal.at.work_out_all-said-requires c).Else-code_of-ne0), refl)
-
-pub returns-then-code_of-ne0-2 : goal.returns-then-code_of-ne0-2
-returns-then-code_of-ne0-2 c =
-    core-refused (found (goal.at.returns-then-code_of-ne0-2 c).Else-code_of-ne0) c.work_out_all-said.ensures
-    (λ z. c.if-code_of-ne0-2.true (c.code_of-2.ensures ∙ z))
+pub returns-in_err-work_out_all : goal.returns-in_err-work_out_all
+returns-in_err-work_out_all c =
+    let p = err_from_is_err_and c.from_residual-in_err-work_out_all.result c.from_residual-in_err-work_out_all.ensures.1 in
+    rw (p.1, p.2)
+    (core-refused (found (goal.at.returns-in_err-work_out_all c).In_ok-spots)
+    (rw (c.in_err-work_out_all.was, c.as_slice.ensures.value) at c.work_out_all.ensures))
 
 pub sum_of-requires : goal.sum_of-requires
 sum_of-requires c =
-    let l = (goal.at.sum_of-requires c).Else-code_of-ne0-2 in
-    can_sum (found (goal.at.sum_of-requires c).Else-code_of-ne0) c.work_out_all-said.ensures (fine l) (rooms l)
+    rw c.as_slice-2.ensures.value
+    (can_sum (found (goal.at.sum_of-requires c).In_ok-spots)
+    (rw (c.in_ok-work_out_all.was, c.as_slice.ensures.value) at c.work_out_all.ensures))
 
 pub returns : goal.returns
 returns c =
-    let l = (goal.at.returns c).Else-code_of-ne0-2 in
-    c.good_delay.ensures
-    ∙ chain_passes (found (goal.at.returns c).Else-code_of-ne0) c.work_out_all-said.ensures (fine l) (rooms l) _ c.sum_of.ensures
+    chain_passes (found (goal.at.returns c).In_ok-spots)
+    (rw (c.in_ok-work_out_all.was, c.as_slice.ensures.value) at c.work_out_all.ensures)
+    c.sum_of.result (rw c.as_slice-2.ensures.value at c.sum_of.ensures)

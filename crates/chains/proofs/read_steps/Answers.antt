@@ -1,27 +1,25 @@
 -- `chains::read_steps` meets its contract: step by step, then the end. Assumes nothing.
-use mathlib.Core.Path.{◌∙◌}
-use Rattle.chains.proofs.Stepping.{none_read, step_stops, room, ranges_fit, step-read, steps_behind, steps_read}
+use borrow.Author.Rules.{rules}
+use borrow.Author.Tests.{lt-ltb, le-ltb}
+use Rattle.std.proofs.lemmas.Result.{err_from_is_err_and}
+use Rattle.fields.specs.Stepping.{◌then◌}
+use Rattle.chains.specs.Lists.{steps_at}
+use Rattle.chains.proofs.Stepping.{step_stops, step-read, all_read, all_held}
 use Rattle.chains.proofs.read_steps.Goals as goal
 
-pub slice_bounds-numbers-end : goal.slice_bounds-numbers-end
-slice_bounds-numbers-end c = room c.loop-i.invariant c.loop-i-test.true c.requires
+pub returns-in_err-p : goal.returns-in_err-p
+returns-in_err-p c =
+    let p = err_from_is_err_and c.from_residual.result c.from_residual.ensures.1 in
+    rw (p.1, p.2, step_stops c.loop.invariant c.loop-test.true _ c.in_err-p.ensures)
 
-pub read_fields-requires : goal.read_fields-requires
-read_fields-requires c = ranges_fit c.loop-i.invariant c.loop-i-test.true c.requires
-
-pub returns-in-Refused : goal.returns-in-Refused
-returns-in-Refused c =
-    c.no_list.ensures ∙ step_stops c.loop-i.invariant c.loop-i-test.true _ (rw c.in-Refused.is at c.read_fields.ensures)
-
-pub loop-i-preserved : goal.loop-i-preserved
-loop-i-preserved c = step-read c.loop-i.invariant c.loop-i-test.true (rw c.in-At.is at c.read_fields.ensures)
+pub loop-preserved : goal.loop-preserved
+loop-preserved c =
+    rw c.push.ensures.items (step-read c.loop.invariant c.loop-test.true c.read_fields.new.out _ (search rules) c.in_ok-p.ensures)
 
 pub returns-then-p-list : goal.returns-then-p-list
-returns-then-p-list c =
-    c.no_list-then-p-list.ensures ∙ steps_behind c.loop-i.invariant c.loop-i-test.false c.if-p-list.true
+unfolding steps_at ◌then◌
+returns-then-p-list c = rw (all_read c.loop.invariant c.loop-test.false, lt-ltb _ _ c.if-p-list.true)
 
 pub returns : goal.returns
-returns c = steps_read c.loop-i.invariant c.loop-i-test.false c.if-p-list.false
-
-pub loop-i-init : goal.loop-i-init
-loop-i-init c = none_read _ _ _
+unfolding steps_at ◌then◌
+returns c = rw (all_read c.loop.invariant c.loop-test.false, le-ltb _ _ c.if-p-list.false, all_held c.loop.invariant)

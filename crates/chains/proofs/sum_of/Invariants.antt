@@ -1,10 +1,8 @@
 -- `chains::sum_of` meets its contract: the sum over the steps that are passed. Assumes nothing.
-use Prim.Native.Nat.{◌-◌}
-use Rattle.chains.proofs.Adding.{Adding}
+use Rattle.std.specs.Prelude.{◌≡◌}
+use Rattle.lists.specs.Lists.{total, up_to}
+use Rattle.chains.specs.Promises.{added_at}
 use Rattle.chains.proofs.sum_of.Given as goal
 
 abbrev pub invariant-loop-i : goal.invariant-loop-i
-invariant-loop-i l = Adding l.n l.spots l.rooms l.sum l.i
-
-abbrev pub decreases-loop-i : goal.decreases-loop-i
-decreases-loop-i l = l.n - l.i
+invariant-loop-i l = l.sum ≡ total (added_at l.spots l.rooms) (up_to l.i)

@@ -1,15 +1,13 @@
--- `chains::work_out` meets its contract: what analysis gives for the core stands in its part of the rooms. Assumes nothing.
+-- `chains::work_out` meets its contract: analysis of one core into its room. Assumes nothing.
 use borrow.Author.Rules.{rules}
-use Rattle.table.proofs.Rows.{length_mapped}
-use Rattle.chains.proofs.Rows.{Sound}
-use Rattle.chains.proofs.Rooms.{works}
-use Rattle.chains.proofs.work_out.Goals.{Start}
+use Rattle.chains.proofs.Rows.{sound}
+use Rattle.chains.proofs.Rooms.{works_good, works_bad}
 use Rattle.chains.proofs.work_out.Goals as goal
 
--- the table, by its type and what is required
-sound : (c : Start) → Sound c.args.t
-sound c = record { rows = search (rules, length_mapped); times = search rules; fine = c.requires.0 }
+pub returns-in-Good : goal.returns-in-Good
+returns-in-Good c =
+    works_good (sound c.args.t.now) c.args.core c.requires _ c.told-rooms (search rules) c.analyse_good-answer.ensures c.in-Good.is
 
-pub returns : goal.returns
-returns c =
-    works (sound (goal.at.returns c).Start) c.args.core c.requires.1 _ c.requires.2 c.analyse_table-answer.ensures (search rules)
+pub returns-in_default : goal.returns-in_default
+returns-in_default c =
+    works_bad (sound c.args.t.now) c.args.core c.requires _ c.told-rooms (search rules) c.analyse_good-answer.ensures c.in_default.not-Good

@@ -1,7 +1,9 @@
--- `cores::asked_of` meets its contract: its cost and its longest part are what the two callees promise. Assumes nothing.
+-- `cores::asked_of` meets its contract. Assumes nothing.
+use Rattle.std.proofs.Common.{rules}
 use Rattle.model.specs.Task.{cost}
+use Rattle.model.specs.Bounds.{cooperative}
 use Rattle.cores.proofs.asked_of.Goals as goal
 
 pub returns : goal.returns
-unfolding cost
-returns c = rw (c.sum_of-cost.ensures, c.largest_of-longest.ensures)
+unfolding cost cooperative
+returns c = search rules

@@ -1,30 +1,27 @@
--- `cores::core_of` meets its contract. The invariant: the core's rows so far lie in memory, with what is asked of each, and those ahead
+-- `cores::core_of` meets its contract. The invariant: the core's rows so far lie in memory, with what is asked of each, and those left
 -- follow. Assumes nothing.
-use Prim.Native.Nat.{ℕ, ◌+◌, ◌-◌, ◌*◌, ◌≤◌, ◌<◌}
-use native.Mathlib.Omega.{arith}
-use borrow.Author.Rules.{rules}
-use mathlib.Core.Path.{◌≡◌, refl, sym, ap, ◌∙◌}
-use mathlib.Core.List.{List, [], ◌∷◌, ◌++◌, map, map-append, append-nil}
-use lib.ListN.{length, get_or, take, drop, set, length-map}
-use lib.Seq.{sets, append_snoc}
-use Rattle.lists.specs.Lists.{each, pad_to, total, sum}
+use Rattle.std.proofs.Common.{◌≡◌, refl, sym, ap, ◌∙◌, ℕ, suc, ◌+◌, ◌-◌, ◌*◌, ◌≤◌, List, map, [], ◌∷◌, ◌++◌}
+use Rattle.std.proofs.Common.{length, get_or, take, drop, set, arith, length-append, append_assoc, append-nil}
+use Rattle.std.proofs.Math.Seq.{sets, sets-eq, drop-drop, append_snoc}
+use mathlib.Core.List.{map-append}
+use Rattle.lists.specs.Lists.{each, sum}
 use Rattle.lists.proofs.Sums.{sum-most}
-use Rattle.lists.proofs.Pads.{set-pad}
 use Rattle.model.specs.Task.{Task, parts, part}
 use Rattle.model.specs.Rows.{GoodTask}
 use Rattle.model.specs.Bounds.{on_core}
 use Rattle.model.proofs.Cores.{core_none, core_first, core_other}
 use Rattle.table.specs.declared.Row.{Row}
 use Rattle.table.specs.declared.Table.{Table}
-use Rattle.table.specs.Memory.{zero_row, task_of, tasks_of}
-use Rattle.table.proofs.Rows.{length_mapped}
-use Rattle.table.proofs.Laid.{laid_stored, times_long, behind-length, laid_more}
-use Rattle.table.proofs.Ahead.{lent, Next, next, none_ahead, good_ahead}
-use Rattle.cores.specs.declared.Asked.{Asked}
-use Rattle.cores.specs.Cores.{asked_of, asked_nothing, core_of}
+use Rattle.table.specs.Memory.{zero_row, task_of, all_times, tasks_of}
 use Rattle.table.proofs.Stored.{times-count}
+use Rattle.table.proofs.GoodTasks.{times_fit, tasks-good}
+use Rattle.table.proofs.Walk.{Next, next, none_left, all_left}
+use Rattle.table.proofs.Laid.{Laid, laid_stored, laid_sets, times_long}
+use Rattle.cores.specs.declared.Asked.{Asked}
+use Rattle.cores.specs.Cores.{asked_of, core_of}
+use Rattle.cores.proofs.GoodCores.{core_of-good}
 use Rattle.cores.proofs.core_of.Invariants.{Keeping}
-use Rattle.cores.proofs.core_of.Goals.{Start, In-loop-i, then-row-core, else-row-core}
+use Rattle.cores.proofs.core_of.Goals.{In-loop-row, then-row-core, else-row-core}
 use Rattle.cores.proofs.core_of.Goals as goal
 
 -- a good task's times add up to a number that fits
@@ -34,222 +31,152 @@ times-add u g =
     let all : sum u.times ≤ length u.times * 16777215 = sum-most u.times 16777215 (λ r h. (g.time r h).most) in
     omega (arith, g.count.most)
 
--- what is asked of one row more stands behind what is asked of the others
-asks_more : (mine : List Task) (asked : List Asked) (count : ℕ) (u : Task) (a : Asked)
-    → asked ≡ pad_to asked_nothing 64 (map asked_of mine) → count ≡ length mine → count < 64 → a ≡ asked_of u
-    → set asked count a ≡ pad_to asked_nothing 64 (map asked_of (mine ++ (u ∷ [])))
-asks_more mine asked count u a asks number few e =
-    let at-end : count ≡ length (map asked_of mine) = number ∙ sym (length-map mine asked_of) in
-    rw (asks, at-end, e, map-append asked_of mine (u ∷ [])) (set-pad asked_nothing 64 (map asked_of mine) (asked_of u) (omega arith))
+module _ {t : Table} {core : ℕ} {own : Table} {kept : ℕ} {asked : List Asked} {rows : List Row} {rest : List ℕ} {i : ℕ}
+    (k : Keeping t core own kept asked rows rest i) where
+  -- past the last row the core is whole
+  ends : length rows ≤ i → record { own = own; parts = kept; asked = record { items = asked } } ≡ core_of (on_core core (tasks_of t))
+  ends h =
+      let mine = k.all ∙ rw (none_left k.tasks k.left h, core_none core) (append-nil k.mine) in
+      let whole : record { own = own; parts = kept; asked = record { items = asked } } ≡ core_of k.mine
+      = λ j. record { own = k.owns j; parts = (k.counts ∙ times-count k.mine) j; asked = record { items = k.asks j } } in
+      whole ∙ sym (ap core_of mine)
 
-module _ {t : Table} {core : ℕ} {rows : List Row} {times : List ℕ} {asked : List Asked} {count kept used i : ℕ}
-    (k : Keeping t core rows times asked count kept used i) where
-  module _ (h : i < t.count) where
-    -- the task that is next
-    coming : Next t used i k.left
-    coming = next k.left k.ahead h
+  -- as the core's rows lie
+  laid : Laid k.mine own.rows own.times own.count kept
+  laid =
+      record {
+        number = ap (λ (x : Table). x.count) k.owns;
+        total = k.counts;
+        rows_are = ap (λ (x : Table). x.rows) k.owns;
+        times_are = ap (λ (x : Table). x.times) k.owns;
+      }
 
-    -- its row with the times that are lent is the task
-    task_is : task_of (get_or t.rows i zero_row) (lent t used i) ≡ coming.task
-    task_is = rw (coming.own, coming.row)
+  -- the next row
+  module _ (n : Next rows rest i k.tasks) where
+    abbrev row : Row
+    row = get_or rows i zero_row
 
-    -- their sum fits
-    sum_fits : sum (lent t used i) ≤ 4294967295
-    sum_fits = rw coming.own (times-add coming.task coming.good)
+    -- as many times are taken as the row says
+    taken : length (take row.parts rest) ≡ row.parts
+    taken = ap length n.own ∙ sym (ap (λ (r : Row). r.parts) n.row)
 
-    -- as many times are lent as its row says
-    lent_length : length (lent t used i) ≡ (get_or t.rows i zero_row).parts
-    lent_length = rw (coming.own, coming.row)
+    -- it is the task's
+    whose : task_of row (take row.parts rest) ≡ n.task
+    whose = rw (n.own, n.row) refl
 
-    -- its row has a place
-    place : count < 64
-    place = omega (arith, k.fewer, k.ahead.few)
+    -- there are rows enough for it and for the others
+    few_here : length k.mine + suc (length n.others) ≤ 64
+    few_here = rw n.first at k.few
 
-    -- its times have room
-    room : kept + (get_or t.rows i zero_row).parts ≤ 1024
-    room = omega (arith, k.less, coming.room)
+    -- and times
+    room_here : kept + (row.parts + length (all_times n.others)) ≤ 1024
+    unfolding each
+    room_here =
+        let all : kept + length (n.task.times ++ all_times n.others) ≤ 1024 = rw n.first at k.room in
+        omega (arith, all, length-append n.task.times (all_times n.others), taken, ap length n.own)
 
-    -- so the part that is lent for its times is long enough
-    fits : length (lent t used i) ≤ length (take (1024 - kept) (drop kept times))
-    fits = rw (behind-length k.laid (omega (arith, room))) (omega (arith, lent_length, room))
+    -- the times behind those of the core, as the code puts them there
+    abbrev put : List ℕ
+    put = take kept own.times ++ (take row.parts rest ++ drop (kept + length (take row.parts rest) - kept) (drop kept own.times))
 
-    -- a row of the core is kept, and the next row's times begin past its own
-    row_kept : (past : ℕ) → past ≡ used + (get_or t.rows i zero_row).parts → (part : List ℕ) → (get_or t.rows i zero_row).core ≡ core
-        → part ≡ sets (take (1024 - kept) (drop kept times)) 0 (lent t used i)
-        → (a : Asked) → a ≡ asked_of (task_of (get_or t.rows i zero_row) (lent t used i))
-        → Keeping t core (set rows count (get_or t.rows i zero_row)) (take kept times ++ (part ++ drop (1024 - kept) (drop kept times)))
-        (set asked count a) (count + 1) (kept + (get_or t.rows i zero_row).parts) past (i + 1)
-    row_kept past begins part on e a asks =
-        let u : Task = coming.task in
-        let on_core_lem : u.core ≡ core = ap (λ (r : Row). r.core) (sym coming.row) ∙ on in
-        let first : on_core core k.left ≡ u ∷ on_core core coming.others
-        = ap (on_core core) coming.first ∙ core_first core u coming.others on_core_lem in
+    -- they are stored there
+    put_is : put ≡ sets own.times kept (take row.parts rest)
+    put_is =
+        let long : length own.times ≡ 1024 = times_long laid (omega (arith, room_here)) in
+        let past : kept + length (take row.parts rest) - kept ≡ length (take row.parts rest) = omega arith in
+        rw (past, drop-drop, ← append_assoc) (sym (sets-eq (take row.parts rest) own.times kept (omega (arith, taken, room_here))))
+
+    -- so a row of the core lies behind the others
+    laid-more : Laid (k.mine ++ (n.task ∷ [])) (set own.rows own.count row) put (own.count + 1) (kept + row.parts)
+    laid-more =
+        laid_sets laid n.task row (take row.parts rest) n.row n.own put (omega (arith, laid.number, few_here))
+        (omega (arith, taken, room_here)) put_is
+
+    -- a row of the core is kept
+    row_kept : {behind : List ℕ} → behind ≡ drop row.parts rest → row.core ≡ core
+        → Keeping t core (record { count = own.count + 1; rows = set own.rows own.count row; times = put })
+        (kept + length (take row.parts rest)) (asked ++ (asked_of (task_of row (take row.parts rest)) ∷ [])) rows behind (i + 1)
+    row_kept b on =
+        rw b
         record {
-          mine = k.mine ++ (u ∷ []);
-          left = coming.others;
-          laid = laid_more k.laid u _ _ coming.row coming.own part place (omega (arith, room, lent_length)) e;
-          asks = asks_more k.mine asked count u a k.asks k.laid.number place (asks ∙ ap asked_of task_is);
-          ahead = rw begins coming.ahead;
-          all = k.all ∙ ap (◌++◌ k.mine) first ∙ sym (append_snoc k.mine u (on_core core coming.others));
-          fewer = omega (arith, k.fewer);
-          less = omega (arith, k.less, begins);
+          mine = k.mine ++ (n.task ∷ []);
+          owns = laid_stored laid-more;
+          counts = rw taken laid-more.total;
+          asks = rw (k.asks, map-append) (ap (λ u. map asked_of k.mine ++ (asked_of u ∷ [])) whose);
+          tasks = n.others;
+          left = n.left;
+          all =
+              k.all
+              ∙ ap (◌++◌ k.mine) (ap (on_core core) n.first ∙ core_first core n.task _ (sym (ap (λ (r : Row). r.core) n.row) ∙ on))
+              ∙ sym (append_snoc k.mine n.task _);
+          few = rw length-append (omega (arith, few_here));
+          room = omega (arith, taken, room_here);
         }
 
     -- any other is passed over
-    row_passed : (past : ℕ) → past ≡ used + (get_or t.rows i zero_row).parts → ((get_or t.rows i zero_row).core ≡ core → ⊥)
-        → Keeping t core rows times asked count kept past (i + 1)
-    row_passed past begins off =
-        let u : Task = coming.task in
-        let off-core : u.core ≡ core → ⊥ = λ e. off (ap (λ (r : Row). r.core) coming.row ∙ e) in
+    row_passed : {behind : List ℕ} → behind ≡ drop row.parts rest → (row.core ≡ core → ⊥) → Keeping t core own kept asked rows behind (i + 1)
+    row_passed b off =
+        rw b
         record {
           mine = k.mine;
-          left = coming.others;
-          laid = k.laid;
+          owns = k.owns;
+          counts = k.counts;
           asks = k.asks;
-          ahead = rw begins coming.ahead;
-          all = k.all ∙ ap (◌++◌ k.mine) (ap (on_core core) coming.first ∙ core_other core u coming.others off-core);
-          fewer = omega (arith, k.fewer);
-          less = omega (arith, k.less, begins);
+          tasks = n.others;
+          left = n.left;
+          all =
+              k.all
+              ∙ ap (◌++◌ k.mine) (ap (on_core core) n.first ∙ core_other core n.task _ (λ e. off (ap (λ (r : Row). r.core) n.row ∙ e)));
+          few = omega (arith, few_here);
+          room = omega (arith, room_here);
         }
 
-  -- past the last row the core is whole
-  ends : t.count ≤ i
-      → record { own = record { count = count; rows = rows; times = times }; parts = kept; asked = asked }
-      ≡ core_of (on_core core (tasks_of t))
-  ends h =
-      let none : on_core core k.left ≡ [] = ap (on_core core) (none_ahead k.left k.ahead h) ∙ core_none core in
-      let mine : on_core core (tasks_of t) ≡ k.mine = k.all ∙ ap (◌++◌ k.mine) none ∙ append-nil k.mine in
-      let number : kept ≡ total parts k.mine = k.laid.total ∙ times-count k.mine in
-      let whole : record { own = record { count = count; rows = rows; times = times }; parts = kept; asked = asked } ≡ core_of k.mine
-      = λ j. record { own = laid_stored k.laid j; parts = number j; asked = k.asks j } in
-      whole ∙ sym (ap core_of mine)
+-- the next row, where the code is at it
+here : (c : In-loop-row) → let l = c.loop-row in Next c.used_rows-row-items.result.now l.rest.now l.row-index l.invariant.tasks
+here c = next c.loop-row.invariant.tasks c.loop-row.invariant.left c.loop-row-test.true
 
--- the rows and times of a table in memory, by its type
-rows_there : (c : Start) → length c.args.t.rows ≡ 64
-rows_there c = search (rules, length_mapped)
-
-times_there : (c : In-loop-i) → length c.args.t.times ≡ 1024
-times_there c = search rules
-
--- the times of the row have room where they come from
-room_there : (c : In-loop-i)
-    → c.loop-i.used + (get_or c.args.t.rows c.loop-i.i zero_row).parts ≤ 1024
-room_there c = (coming c.loop-i.invariant c.loop-i-test.true).room
-
--- within the table's times
-lent_there : (c : In-loop-i)
-    → c.loop-i.used + (get_or c.args.t.rows c.loop-i.i zero_row).parts ≤ length c.args.t.times
-lent_there c = omega (arith, room_there c, times_there c)
-
--- and where they go
-room-here : (c : In-loop-i)
-    → c.loop-i.parts + (get_or c.args.t.rows c.loop-i.i zero_row).parts ≤ 1024
-room-here c = room c.loop-i.invariant c.loop-i-test.true
-
--- and the row has a place
-place_here : (c : In-loop-i) → c.loop-i.count < 64
-place_here c = place c.loop-i.invariant c.loop-i-test.true
-
-pub loop-i-init : goal.loop-i-init
+pub loop-row-init : goal.loop-row-init
 unfolding each
-loop-i-init c =
-    let t = c.args.t in
+loop-row-init c =
+    let t = c.args.t.now in
+    let good = tasks-good t.table t.all_rows t.all_times t.good in
+    rw c.used_rows-row-items.ensures
     record {
       mine = [];
-      left = tasks_of t;
-      laid = record { number = refl; total = refl; rows_are = rw c.row_of-row0.ensures; times_are = refl };
-      asks = rw c.asked_nothing-asked0.ensures;
-      ahead = good_ahead t (rows_there (goal.at.loop-i-init c).Start) (search rules) c.requires;
+      owns = c.zeros-own.ensures;
+      counts = refl;
+      asks = c.new-asked.ensures;
+      tasks = tasks_of t.table;
+      left = all_left t;
       all = refl;
-      fewer = search rules;
-      less = search rules;
+      few = omega (arith, good.few);
+      room = times_fit 0 (tasks_of t.table) (omega arith) good.fine;
     }
 
-pub slice_bounds-times-end : goal.slice_bounds-times-end
-slice_bounds-times-end c =
-    let l = (goal.at.slice_bounds-times-end c).In-loop-i in
-    omega (arith, room-here l, times_long l.loop-i.invariant.laid (omega (arith, room-here l)))
+pub split_at-requires : goal.split_at-requires
+split_at-requires c = (here (goal.at.split_at-requires c).In-loop-row).room
 
-pub copy-requires : goal.copy-requires
-copy-requires c =
-    let l = (goal.at.copy-requires c).In-loop-i in
-    fits l.loop-i.invariant l.loop-i-test.true
+pub slice_bounds-copy_from_slice-end : goal.slice_bounds-copy_from_slice-end
+slice_bounds-copy_from_slice-end c =
+    omega (arith, room_here c.loop-row.invariant (here (goal.at.slice_bounds-copy_from_slice-end c).In-loop-row))
 
 pub asked_of-requires : goal.asked_of-requires
 asked_of-requires c =
-    let l = (goal.at.asked_of-requires c).In-loop-i in
-    sum_fits l.loop-i.invariant l.loop-i-test.true
+    let n = here (goal.at.asked_of-requires c).In-loop-row in rw (c.split_at.ensures.front, n.own) (times-add n.task n.good)
 
-pub loop-i-preserved : goal.loop-i-preserved
-loop-i-preserved c =
-    let k = c.loop-i.invariant in
+pub loop-row-preserved : goal.loop-row-preserved
+loop-row-preserved c =
+    let k = c.loop-row.invariant in
+    let n = here (goal.at.loop-row-preserved c).In-loop-row in
+    let behind = c.split_at.ensures.back in
     elim c.if-row-core.branch [
       | then-row-core w ↦
-          rw (w.rows-is, w.times-is, w.asked-is, w.count-is, w.parts-is)
-          (row_kept k c.loop-i-test.true _ refl _ w.if-row-core.true w.copy.ensures _ w.asked_of.ensures)
-      | else-row-core w ↦
-          rw (w.rows-is, w.times-is, w.asked-is, w.count-is, w.parts-is) (row_passed k c.loop-i-test.true _ refl w.if-row-core.false)
+          rw (w.own-is, w.parts-is, w.asked-is, w.push.ensures.items, w.copy_from_slice.ensures.after, w.asked_of.ensures)
+          (rw c.split_at.ensures.front (row_kept k n behind w.if-row-core.true))
+      | else-row-core w ↦ rw (w.own-is, w.parts-is, w.asked-is) (row_passed k n behind w.if-row-core.false)
     ]
 
 pub returns : goal.returns
-returns c = ends c.loop-i.invariant c.loop-i-test.false
-
-pub offset_bounds-t-i : goal.offset_bounds-t-i
-offset_bounds-t-i c = omega (arith, c.loop-i.invariant.ahead.few)
-
-pub bounds-t-i : goal.bounds-t-i
-bounds-t-i c = omega (arith, c.loop-i.invariant.ahead.few)
-
-pub overflow_add-next : goal.overflow_add-next
-overflow_add-next c = omega (arith, room_there (goal.at.overflow_add-next c).In-loop-i)
-
-pub offset_bounds-from-used : goal.offset_bounds-from-used
-offset_bounds-from-used c = omega (arith, room_there (goal.at.offset_bounds-from-used c).In-loop-i)
-
-pub slice_bounds-copy-count : goal.slice_bounds-copy-count
-slice_bounds-copy-count c = omega (arith, room_there (goal.at.slice_bounds-copy-count c).In-loop-i)
-
-pub slice_bounds-copy-start : goal.slice_bounds-copy-start
-slice_bounds-copy-start c = omega (arith, lent_there (goal.at.slice_bounds-copy-start c).In-loop-i)
-
-pub slice_bounds-copy-end : goal.slice_bounds-copy-end
-slice_bounds-copy-end c = omega (arith, lent_there (goal.at.slice_bounds-copy-end c).In-loop-i)
-
-pub offset_bounds-times-parts : goal.offset_bounds-times-parts
-offset_bounds-times-parts c = omega (arith, room-here (goal.at.offset_bounds-times-parts c).In-loop-i)
-
-pub slice_bounds-copy-count-then-row-core : goal.slice_bounds-copy-count-then-row-core
-slice_bounds-copy-count-then-row-core c = omega (arith, room-here (goal.at.slice_bounds-copy-count-then-row-core c).In-loop-i)
-
-pub slice_bounds-times-start : goal.slice_bounds-times-start
-slice_bounds-times-start c = omega (arith, room-here (goal.at.slice_bounds-times-start c).In-loop-i)
-
-pub offset_bounds-rows-count : goal.offset_bounds-rows-count
-offset_bounds-rows-count c = omega (arith, place_here (goal.at.offset_bounds-rows-count c).In-loop-i)
-
-pub bounds-rows-count : goal.bounds-rows-count
-bounds-rows-count c = place_here (goal.at.bounds-rows-count c).In-loop-i
-
-pub offset_bounds-from-used-then-row-core : goal.offset_bounds-from-used-then-row-core
-offset_bounds-from-used-then-row-core c = omega (arith, room_there (goal.at.offset_bounds-from-used-then-row-core c).In-loop-i)
-
-pub slice_bounds-asked_of-count : goal.slice_bounds-asked_of-count
-slice_bounds-asked_of-count c = omega (arith, room_there (goal.at.slice_bounds-asked_of-count c).In-loop-i)
-
-pub slice_bounds-asked_of-start : goal.slice_bounds-asked_of-start
-slice_bounds-asked_of-start c = omega (arith, lent_there (goal.at.slice_bounds-asked_of-start c).In-loop-i)
-
-pub slice_bounds-asked_of-end : goal.slice_bounds-asked_of-end
-slice_bounds-asked_of-end c = omega (arith, lent_there (goal.at.slice_bounds-asked_of-end c).In-loop-i)
-
-pub offset_bounds-asked-count : goal.offset_bounds-asked-count
-offset_bounds-asked-count c = omega (arith, place_here (goal.at.offset_bounds-asked-count c).In-loop-i)
-
-pub bounds-asked-count : goal.bounds-asked-count
-bounds-asked-count c = place_here (goal.at.bounds-asked-count c).In-loop-i
-
-pub overflow_add-count : goal.overflow_add-count
-overflow_add-count c = omega (arith, place_here (goal.at.overflow_add-count c).In-loop-i)
-
-pub overflow_add-parts : goal.overflow_add-parts
-overflow_add-parts c = omega (arith, room-here (goal.at.overflow_add-parts c).In-loop-i)
+returns c =
+    let all = ends c.loop-row.invariant c.loop-row-test.false in
+    record { is = all; good = core_of-good c.args.t.now c.args.core all }

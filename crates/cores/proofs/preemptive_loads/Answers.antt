@@ -1,14 +1,13 @@
--- `cores::preemptive_loads` meets its contract: the rows wanted are the preemptive ones. Assumes nothing.
-use native.Mathlib.Omega.{arith}
-use lib.ListN.{take, length-take}
-use Rattle.cores.specs.declared.Which.TheVariants.{Preemptive}
+-- `cores::preemptive_loads` meets its contract: the rows that are not cooperative are wanted. Assumes nothing.
+use Rattle.std.proofs.Common.{not, Bool, rules, arith}
+use Rattle.cores.specs.declared.Asked.{Asked}
 use Rattle.cores.proofs.Wanted.{wanted-most}
 use Rattle.cores.proofs.preemptive_loads.Goals as goal
 
-pub put_loads-requires : goal.put_loads-requires
-put_loads-requires c =
-    let rows = take c.args.count c.args.asked in
-    record {
-      count_bound = c.requires.count_bound;
-      asked_in_bounds = omega (arith, c.requires, wanted-most Preemptive rows, length-take c.args.count c.args.asked);
-    }
+-- the rows wanted
+abbrev other : Asked → Bool
+other a = not a.cooperative
+
+pub put_loads-requires-clause-room : goal.put_loads-requires-clause-room
+put_loads-requires-clause-room c =
+    let most = wanted-most other c.args.asked.now in (other, λ a r k. search rules, rw c.new-loads.ensures (omega arith))

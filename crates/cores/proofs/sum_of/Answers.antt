@@ -1,26 +1,14 @@
--- `cores::sum_of` meets its contract. The invariant: the sum so far is that of the first i times. Assumes nothing.
-use Prim.Native.Nat.{suc}
-use native.Mathlib.Numerals.{add-one}
-use native.Mathlib.Omega.{arith}
-use borrow.Author.Rules.{rules}
-use mathlib.Core.Path.{refl, ◌∙◌}
-use Rattle.lists.specs.Lists.{sum}
-use Rattle.lists.proofs.Sums.{sum-suc, sum-take, sum-all}
+-- `cores::sum_of` meets its contract: std's sum of the times is their sum. Assumes nothing.
+use Rattle.std.proofs.Common.{◌∙◌, sym, arith}
+use Rattle.std.proofs.lemmas.Iterator.{YieldsList-from_slice}
+use Rattle.std.proofs.lemmas.Iterator.Consumers.{sum_from_yields_List, fits_from_yields_list}
+use Rattle.cores.proofs.Folds.{sum_is}
 use Rattle.cores.proofs.sum_of.Goals as goal
 
-pub loop-i-init : goal.loop-i-init
-unfolding sum
-loop-i-init c = (search rules, refl)
-
-pub overflow_add-all : goal.overflow_add-all
-overflow_add-all c =
-    let times = c.args.times.now in
-    omega (arith, c.loop-i.invariant.1, sum-suc times c.loop-i.i, sum-take times (suc c.loop-i.i), c.requires)
-
-pub loop-i-preserved : goal.loop-i-preserved
-loop-i-preserved c =
-    let next = sum-suc c.args.times.now c.loop-i.i in
-    (search rules, rw add-one (omega (arith, c.loop-i.invariant.1, next)))
+pub sum-requires-clause-fits : goal.sum-requires-clause-fits
+sum-requires-clause-fits c =
+    fits_from_yields_list c.iter.result _ (YieldsList-from_slice c.args.times.now cc) (omega (arith, sum_is c.args.times.now))
 
 pub returns : goal.returns
-returns c = c.loop-i.invariant.1 ∙ sum-all _ _ c.loop-i-test.false
+returns c =
+    sum_from_yields_List c.iter.result _ c.sum.ensures.ran (YieldsList-from_slice c.args.times.now cc) ∙ sym (sum_is c.args.times.now)

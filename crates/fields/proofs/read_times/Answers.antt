@@ -1,34 +1,21 @@
 -- `fields::read_times` meets its contract: all times but the last, then the last. Assumes nothing.
-use native.Mathlib.Omega.{arith}
-use mathlib.Core.Path.{sym}
-use lib.Seq.{length-take-le}
-use Rattle.table.proofs.FieldRanges.{length_same}
-use Rattle.fields.proofs.Steps.{got_field, refused-field}
-use Rattle.fields.proofs.TimesRead.{ranges_fit, times_stop, last_stops, times-read}
+use Rattle.std.proofs.lemmas.Result.{err_from_is_err_and}
+use Rattle.fields.proofs.Below.{times_below}
+use Rattle.fields.proofs.TimesRead.{times_stop, last_stops, times-read}
 use Rattle.fields.proofs.read_times.Goals as goal
 
-pub slice_bounds-read_fields-end : goal.slice_bounds-read_fields-end
-slice_bounds-read_fields-end c = sym (length_same 1 _ 64 (omega (arith, c.requires)))
+pub read_fields-requires-clause-in_range : goal.read_fields-requires-clause-in_range
+read_fields-requires-clause-in_range g c = times_below _ 64
 
-pub slice_bounds-read_fields-end-2 : goal.slice_bounds-read_fields-end-2
-slice_bounds-read_fields-end-2 c = sym (length_same 16777215 _ 64 (omega (arith, c.requires)))
+pub returns-in_err-p : goal.returns-in_err-p
+returns-in_err-p g c =
+    let p = err_from_is_err_and c.from_residual.result c.from_residual.ensures.1 in
+    rw (p.1, p.2) (times_stop _ _ _ _ c.requires.some c.requires.few _ c.in_err-p.ensures)
 
-pub slice_bounds-read_fields-end-4 : goal.slice_bounds-read_fields-end-4
-slice_bounds-read_fields-end-4 c = sym (length-take-le _ _ (omega (arith, c.requires)))
+pub returns-in_err-last : goal.returns-in_err-last
+returns-in_err-last g c =
+    let p = err_from_is_err_and c.from_residual-in_err-last.result c.from_residual-in_err-last.ensures.1 in
+    rw (p.1, p.2) (last_stops _ _ _ _ c.requires.some c.requires.few _ _ c.in_ok-p.ensures _ c.in_err-last.ensures)
 
-pub read_fields-requires : goal.read_fields-requires
-read_fields-requires c = ranges_fit c.args.out.now c.requires.0 c.requires.1
-
-pub returns-in-Refused : goal.returns-in-Refused
-returns-in-Refused c = times_stop c.args.way c.args.bytes.now c.args.at c.args.out.now c.requires.0 c.requires.1 _
-    (rw c.in-Refused.is at c.read_fields.ensures)
-
-pub returns-in-Refused-read_last : goal.returns-in-Refused-read_last
-returns-in-Refused-read_last c = last_stops c.args.way c.args.bytes.now c.args.at c.args.out.now c.requires.0 c.requires.1
-    (rw c.in-At.is at c.read_fields.ensures) _
-    (refused-field _ _ (c.in-Refused-read_last.ensures))
-
-pub returns-in-Got : goal.returns-in-Got
-returns-in-Got c = times-read c.args.way c.args.bytes.now c.args.at c.args.out.now c.requires.0 c.requires.1
-    (rw c.in-At.is at c.read_fields.ensures) _ _
-    (got_field _ _ _ (c.in-Got.ensures))
+pub returns : goal.returns
+returns g c = times-read _ _ _ _ c.requires.some c.requires.few _ _ c.in_ok-p.ensures _ _ c.in_ok-last.ensures

@@ -1,35 +1,22 @@
 -- `files::file_numbers` meets its contract. The invariant: the numbers so far and those of the rows ahead are the whole. Assumes nothing.
-use Prim.Native.Nat.{ℕ, ◌+◌, ◌-◌, ◌≤◌}
+use Prim.Native.Nat.{ℕ, ◌≤◌}
 use mathlib.Core.Path.{◌≡◌}
 use mathlib.Core.List.{List, ◌++◌}
-use lib.ListN.{length, get_or}
-use Rattle.lists.specs.Lists.{each, over}
+use lib.ListN.{length}
+use Rattle.lists.specs.Lists.{each}
 use Rattle.model.specs.Task.{Task}
+use Rattle.table.specs.declared.Row.{Row}
 use Rattle.table.specs.declared.Table.{Table}
-use Rattle.table.specs.Memory.{zero_row, tasks_of}
-use Rattle.table.proofs.Ahead.{Ahead}
+use Rattle.table.specs.Memory.{tasks_of}
 use Rattle.files.specs.Writing.{row_numbers, file_numbers}
+use Rattle.table.proofs.Walk.{Left}
 use Rattle.files.proofs.file_numbers.Given as goal
 
-pub record Listing (t : Table) (out₀ out : List ℕ) (p used i : ℕ) : Type 0 where
-  pub left : List Task
-  pub ahead : Ahead t used i left
-  pub new : List ℕ
-  pub whole : file_numbers (tasks_of t) ≡ new ++ each row_numbers left
+pub record Listing (t : Table) (rows : List Row) (numbers times : List ℕ) (i : ℕ) : Type 0 where
+  pub tasks : List Task
+  pub left : Left rows times i tasks
   pub short : length (file_numbers (tasks_of t)) ≤ 1473
-  pub size : length out₀ ≡ 1473
-  pub place : p ≡ length new
-  pub put : out ≡ over new out₀
+  pub whole : file_numbers (tasks_of t) ≡ numbers ++ each row_numbers tasks
 
--- its times lie within the table's, and its numbers have room
-pub record Room (t : Table) (out : List ℕ) (p used i : ℕ) : Type 0 where
-  pub times : length t.times ≡ 1024
-  pub within : used + (get_or t.rows i zero_row).parts ≤ 1024
-  pub size : length out ≡ 1473
-  pub numbers : p + (7 + (get_or t.rows i zero_row).parts) ≤ 1473
-
-abbrev pub invariant-loop-i : goal.invariant-loop-i
-invariant-loop-i l = Listing l.t l.initial.out l.out l.p l.used l.i
-
-abbrev pub decreases-loop-i : goal.decreases-loop-i
-decreases-loop-i l = l.t.count - l.i
+abbrev pub invariant-loop-row : goal.invariant-loop-row
+invariant-loop-row l = Listing l.t.table l.rows l.numbers.items l.rest l.row-index

@@ -1,41 +1,44 @@
--- `files::size_of_all` meets its contract. The invariant: the size of the first numbers. Assumes nothing.
-use Prim.Native.Nat.{ℕ, ◌+◌, ◌≤◌, ◌<◌}
+-- `files::size_of_all` meets its contract: the sizes of the numbers, summed. Assumes nothing.
+use Prim.Native.Nat.{ℕ, ◌*◌, ◌≤◌}
 use native.Mathlib.Omega.{arith}
 use borrow.Author.Rules.{rules}
 use mathlib.Core.Path.{◌≡◌, refl, ◌∙◌}
-use mathlib.Core.List.{List}
-use lib.ListN.{length, get_or, length-append}
-use lib.Seq.{take_all}
+use mathlib.Core.List.{List, [], ◌∷◌}
+use lib.ListN.{length, length-append}
+use Rattle.std.specs.List.{sum_by}
+use Rattle.std.proofs.lemmas.List.Sums.{sum_by-cons}
+use Rattle.std.proofs.lemmas.Iterator.{YieldsList-from_slice, YieldsList-from_map}
+use Rattle.std.proofs.lemmas.Iterator.Consumers.{sum_by_from_yields_List, fits_by_from_yields_list}
 use Rattle.lists.specs.Lists.{each}
-use Rattle.lists.proofs.EachPart.{each-through}
 use Rattle.numbers.specs.Numbers.{encode, encode_all}
 use Rattle.numbers.proofs.Laws.{encode_few}
-use Rattle.files.proofs.size_of_all.Invariants.{Summing}
 use Rattle.files.proofs.size_of_all.Goals as goal
 
-module _ {ns : List ℕ} {size i : ℕ} (k : Summing ns size i) where
-  -- one number more
-  turn : i < length ns → (n : ℕ) → n ≡ length (encode (get_or ns i 0)) → Summing ns (size + n) (i + 1)
-  turn h n e =
-      record {
-        upto = omega arith;
-        few = omega (arith, k.few, encode_few (get_or ns i 0));
-        same = rw (each-through encode ns i 0 h, length-append) (omega (arith, k.same));
-      }
+-- a number's size
+abbrev size : ℕ → ℕ
+size n = length (encode n)
 
-  -- after the last
-  ends : length ns ≤ i → size ≡ length (encode_all ns)
-  ends h = k.same ∙ rw (take_all i ns h)
+-- the sizes, summed, are how long all the bytes are
+sizes : (ns : List ℕ) → sum_by size ns ≡ length (encode_all ns)
+unfolding each
+sizes [] = refl
+sizes (n ∷ ns) = omega (arith, sum_by-cons size n ns, length-append (encode n) (encode_all ns), sizes ns)
 
-pub loop-i-init : goal.loop-i-init
-loop-i-init c = record { upto = search rules; few = search rules; same = unfold each in refl }
+-- at most five for each number
+few : (ns : List ℕ) → sum_by size ns ≤ 5 * length ns
+few [] = omega arith
+few (n ∷ ns) = omega (arith, sum_by-cons size n ns, encode_few n, few ns)
 
-pub overflow_add-size : goal.overflow_add-size
-overflow_add-size c =
-    omega (arith, c.loop-i.invariant.few, c.size_of-size.ensures, encode_few (get_or c.args.numbers.now c.loop-i.i 0), c.requires)
-
-pub loop-i-preserved : goal.loop-i-preserved
-loop-i-preserved c = turn c.loop-i.invariant c.loop-i-test.true _ c.size_of-size.ensures
+pub sum-requires-clause-fits : goal.sum-requires-clause-fits
+sum-requires-clause-fits c =
+    let ns = c.args.numbers.now in
+    fits_by_from_yields_list size ns c.map.result _
+    (YieldsList-from_map _ size (YieldsList-from_slice ns cc) c.map.ensures.closure (λ x r q k. search rules))
+    (omega (arith, few ns, c.requires))
 
 pub returns : goal.returns
-returns c = ends c.loop-i.invariant c.loop-i-test.false
+returns c =
+    let ns = c.args.numbers.now in
+    sum_by_from_yields_List size ns c.map.result c.sum.result c.sum.ensures.ran
+    (YieldsList-from_map _ size (YieldsList-from_slice ns cc) c.map.ensures.closure (λ x r q k. search rules))
+    ∙ sizes ns

@@ -1,63 +1,40 @@
--- `files::write` meets its contract: a fault, no room, or all the bytes. Assumes nothing.
+-- `files::write` meets its contract: a fault, or the file where it fits. Assumes nothing.
 use Prim.Native.Nat.{ℕ}
-use native.Mathlib.Omega.{arith}
-use mathlib.Core.Path.{◌≡◌, refl, sym, ap, ◌∙◌}
+use borrow.Author.Tests.{lt-ltb, le-ltb}
+use mathlib.Core.Path.{refl}
+use mathlib.Core.Logic.{⊎_elim}
 use mathlib.Core.List.{List}
-use lib.ListN.{length, take, length-take}
-use lib.Seq.{length-take-le}
-use Rattle.lists.proofs.Overs.{take-over}
-use Rattle.numbers.specs.Numbers.{encode_all}
-use Rattle.table.specs.declared.Table.{Table}
-use Rattle.table.specs.Verdicts.{code_of}
-use Rattle.table.specs.Memory.{tasks_of}
-use Rattle.table.specs.Faults.{fault_of}
-use Rattle.table.proofs.Writes.{refuses_fault, refuses_room, writes-all}
-use Rattle.files.specs.Writing.{file_numbers, encode_file, file_of}
-use Rattle.files.specs.Promises.{InOrder}
-use Rattle.files.proofs.write.Goals.{Else-code_of-ne0}
+use lib.ListN.{length}
+use Rattle.std.specs.Prelude.{Result}
+use Rattle.lists.proofs.Tests.{either}
+use Rattle.table.specs.declared.Verdict.{Verdict}
+use Rattle.table.specs.declared.Verdict.TheVariants.{Good}
+use Rattle.table.specs.Written.{written_by, Writes}
+use Rattle.table.proofs.Writes.{refuses_room, writes-all, nothing_against}
+use Rattle.files.specs.Promises.{Fitted}
+use Rattle.files.proofs.Steps.{writes_refused}
+use Rattle.files.proofs.write.Goals.{in-Ok, in-Err}
 use Rattle.files.proofs.write.Goals as goal
 
--- the bytes of the numbers in front are the file
-file_is : (t : Table) (room : List ℕ) (n : ℕ) (numbers : List ℕ) → InOrder (file_numbers (tasks_of t)) room n numbers
-    → encode_all (take n numbers) ≡ file_of t
-unfolding file_of encode_file
-file_is t room n numbers o = ap encode_all (rw (o.count, o.front) (take-over (file_numbers (tasks_of t)) room))
-
--- nothing stands against a table that was not refused
-fault_free : (c : Else-code_of-ne0) → code_of (fault_of c.args.table) ≡ 0
-fault_free c = sym (ap code_of c.fault_of-fault.ensures) ∙ (sym c.code_of.ensures ∙ c.if-code_of-ne0.false)
-
-pub returns-then-code_of-ne0 : goal.returns-then-code_of-ne0
-returns-then-code_of-ne0 c =
-    rw c.refused.ensures (refuses_fault _ _ _ _ _ c.fault_of-fault.ensures c.code_of.ensures c.if-code_of-ne0.true)
-
-pub returns-then-out-size : goal.returns-then-out-size
-returns-then-out-size c =
-    let size = sym (c.size_of_all-size.ensures ∙ ap length (file_is _ _ _ _ c.file_numbers-n.ensures)) in
-    let fine = fault_free (goal.at.returns-then-out-size c).Else-code_of-ne0 in
-    rw c.refused-then-out-size.ensures (refuses_room _ _ _ fine _ size c.if-out-size.true)
-
-pub slice_bounds-put_all-end : goal.slice_bounds-put_all-end
-slice_bounds-put_all-end c =
-    sym (length-take-le _ _ (omega (arith, c.file_numbers-n.ensures.fits)))
+-- bytes that are written where they fit
+fitted-writes : (new out : List ℕ) {r : Result ℕ Verdict} {out' : List ℕ} → Fitted new out r out' → Writes Good new out (written_by r) out'
+fitted-writes new out f =
+    ⊎_elim
+    (λ h. record {
+      answer = rw (f.answer, lt-ltb (length out) (length new) h) (refuses_room Good new out refl _ refl h).answer;
+      bytes = f.bytes;
+    })
+    (λ h. record {
+      answer = rw (f.answer, le-ltb (length out) (length new) h) (writes-all Good new out refl _ refl h _ refl).answer;
+      bytes = f.bytes;
+    })
+    (either (length out) (length new))
 
 pub returns : goal.returns
 returns c =
-    let file = file_is _ _ _ _ c.file_numbers-n.ensures in
-    let size = sym (c.size_of_all-size.ensures ∙ ap length file) in
-    writes-all _ _ _ (fault_free (goal.at.returns c).Else-code_of-ne0) _ size c.if-out-size.false _ (c.put_all.ensures ∙ rw file)
-
-pub file_numbers-n-requires : goal.file_numbers-n-requires
-file_numbers-n-requires c = (fault_free (goal.at.file_numbers-n-requires c).Else-code_of-ne0, refl)
-
-pub slice_bounds-numbers-end : goal.slice_bounds-numbers-end
-slice_bounds-numbers-end c = omega (arith, c.file_numbers-n.ensures.fits)
-
-pub slice_bounds-size_of_all-end : goal.slice_bounds-size_of_all-end
-slice_bounds-size_of_all-end c = sym (length-take-le _ _ (omega (arith, c.file_numbers-n.ensures.fits)))
-
-pub size_of_all-size-requires : goal.size_of_all-size-requires
-size_of_all-size-requires c = rw length-take (omega (arith, c.file_numbers-n.ensures.fits))
-
-pub slice_bounds-numbers-end-2 : goal.slice_bounds-numbers-end-2
-slice_bounds-numbers-end-2 c = omega (arith, c.file_numbers-n.ensures.fits)
+    elim c.match-try_from.branch [
+      | in-Ok w ↦
+          rw (c.from.ensures, w.out-is, w.from-is, ← w.in-Ok.ensures.1)
+          (nothing_against _ _ _ w.in-Ok.good.good (fitted-writes _ _ w.put_file.ensures))
+      | in-Err w ↦ rw (c.from.ensures, w.out-is, w.from-is) (writes_refused _ _ _ w.in-Err.ensures)
+    ]

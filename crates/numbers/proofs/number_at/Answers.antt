@@ -1,122 +1,147 @@
 -- `numbers::number_at` meets its contract. The invariant: what is left to read, put after what was read, is the number.
 -- Assumes nothing.
-use Prim.Native.Nat.{ℕ, suc, ◌+◌, ◌-◌, ◌*◌, ◌^◌, ◌≤◌, ◌<◌}
-use native.Mathlib.Nat.{mul-le-mul_left, mul_comm, pow-le-pow_right, pow-suc}
+use Prim.Native.Nat.{ℕ, ◌+◌, ◌-◌, ◌*◌, ◌^◌, ◌≤◌, ◌<◌}
+use native.Mathlib.Nat.{mul-le-mul_left, pow-le-pow_right, pow-suc, add-zero, add_assoc}
+use native.Mathlib.Numerals.{add-one}
 use native.Mathlib.Omega.{arith}
-use borrow.Author.Rules.{rules}
 use borrow.Author.Tests.{lt-ltb, le-ltb, eq-eqb, ne_eqb}
 use mathlib.Core.Path.{◌≡◌, refl, sym, ap, ◌∙◌}
-use mathlib.Core.List.{List}
+use mathlib.Core.List.{List, [], ◌∷◌}
 use mathlib.Core.Bool.{false}
-use lib.ListN.{length, get_or, drop}
+use mathlib.Core.Logic.{⊎_elim}
+use lib.ListN.{length, drop}
 use lib.Dec.{eqb, ltb, lit≤}
-use Rattle.numbers.specs.declared.Number.{Number}
-use Rattle.numbers.specs.declared.Number.TheVariants.{Got, EndsEarly, Malformed}
+use Rattle.std.proofs.lemmas.Grind.{common_steps}
+use Rattle.std.proofs.lemmas.List.{nil_from_length}
 use Rattle.lists.specs.Lists.{pick}
-use Rattle.lists.proofs.Tests.{pick_same}
+use Rattle.lists.proofs.Tests.{either, pick_same}
+use Rattle.numbers.specs.Numbers.{Got, EndsEarly, Malformed}
 use Rattle.numbers.specs.Numbers.{after, last, groups, number_at}
-use Rattle.numbers.proofs.Laws.{after-after, groups-end, groups-cons}
+use Rattle.numbers.specs.Promises.{as_read}
+use Rattle.numbers.proofs.Laws.{after-after}
 use Rattle.numbers.proofs.number_at.Invariants.{Reading}
 use Rattle.numbers.proofs.number_at.Goals as goal
 
-module _ {s : List ℕ} {at v w p l : ℕ} (r : Reading s at v w p l) (some : 0 < l) where
-  small : w ≤ 2097152
-  small = let h : 4 - l ≤ 3 = omega arith in rw r.unit (pow-le-pow_right {n = 128} (lit≤ tt) h)
-
-  -- a group at the present weight
-  scaled : (x : ℕ) → x < 128 → w * x ≤ 127 * w
-  scaled x h = rw (mul_comm 127 w) (mul-le-mul_left w (omega arith))
-
-  ends : length s ≤ p → EndsEarly ≡ number_at s at
-  ends h = sym (r.same ∙ ap (after v w p) (groups-end (eqb l 4) l p s some h))
-
-  module _ (inside : p < length s) where
-    -- the bytes after this one
-    rest : Number
-    rest = groups false (l - 1) (drop (p + 1) s)
-
-    step : number_at s at ≡ after v w p (pick (ltb (get_or s p 0) 128) (last (eqb l 4) (get_or s p 0)) (after (get_or s p 0 - 128) 128 1 rest))
-    unfolding rest
-    step = r.same ∙ ap (after v w p) (groups-cons (eqb l 4) l p s some inside)
-
-    turn : 128 ≤ get_or s p 0 → get_or s p 0 < 256 → Reading s at (v + w * (get_or s p 0 - 128)) (w * 128) (p + 1) (l - 1)
-    unfolding rest
-    turn h l256 = record {
-      few = omega (arith, r.few);
-      low = omega (arith, r.low, scaled (get_or s p 0 - 128) (omega arith));
-      unit = let e : 4 - (l - 1) ≡ suc (4 - l) = omega (arith, r.few) in rw (e, pow-suc, r.unit);
-      same = step ∙ rw (le-ltb _ _ h, ne_eqb (l - 1) 4 (omega (arith, r.few))) (after-after v w p (get_or s p 0 - 128) 128 1 rest);
+-- at the first byte
+first : (s : List ℕ) (at : ℕ) {rest : List ℕ} {used left : ℕ} {more : List ℕ}
+    → rest ≡ drop at s → used ≡ 0 → left ≡ 4 → more ≡ rest → Reading s at 0 1 rest used left more
+unfolding number_at
+first s at r u l m =
+    rw (m, u, l)
+    record {
+      four = refl;
+      low = omega arith;
+      unit = refl;
+      size = omega arith;
+      same = rw (r, add-zero);
     }
 
-    got : get_or s p 0 < 128 → 0 < get_or s p 0 → Got (v + w * get_or s p 0) (p + 1) ≡ number_at s at
-    got h h' = sym (step ∙ rw (lt-ltb _ _ h, lt-ltb _ _ h', pick_same))
+module _ {s : List ℕ} {at v w : ℕ} {rest : List ℕ} {used left : ℕ} {more : List ℕ} (r : Reading s at v w rest used left more) where
+  -- at the end either four bytes are read or none is left
+  module _ (done : 0 < left → length more ≡ 0) where
+    -- fewer than four were there
+    ends : length rest < 4 → number_at s at ≡ EndsEarly
+    unfolding groups
+    ends h =
+        let some : (left - 1) + 1 ≡ left = omega arith in
+        let none : more ≡ [] = nil_from_length more (done (omega arith)) in
+        r.same ∙ rw (none, ← some, add-one)
 
-    long : get_or s p 0 ≤ 0 → l < 4 → Malformed ≡ number_at s at
-    long h h' = sym (step ∙ rw (lt-ltb (get_or s p 0) 128 (omega arith), le-ltb _ _ h, ne_eqb l 4 (omega arith)))
+    -- four were, and the last of them ends no number
+    full : 4 ≤ length rest → number_at s at ≡ Malformed
+    unfolding groups
+    full h = let all : left ≡ 0 = grind arith in r.same ∙ rw all
 
-    zero_alone : get_or s p 0 ≤ 0 → 4 ≤ l → Got 0 (p + 1) ≡ number_at s at
-    zero_alone h h' =
-        let four : l ≡ 4 = omega (arith, r.few) in
-        let one : w ≡ 1 = rw four at r.unit in
-        let none : v + w * 0 ≡ 0 = omega (arith, r.low) in
-        let z : get_or s p 0 ≡ 0 = omega arith in
-        sym (step ∙ rw (z, eq-eqb l 4 four) (ap (λ (x : ℕ). Got x (p + 1)) none))
+  -- a group at the present weight
+  scaled : (x : ℕ) → x < 128 → w * x ≤ w * 127
+  scaled x h = mul-le-mul_left w (omega arith)
 
-  room : (x : ℕ) → x < 128 → v + w * x < 2 ^ 32
-  room x h = omega (arith, small, scaled x h, r.low)
+  -- where one more is read the weight is small
+  small : 0 < left → w ≤ 2097152
+  small h = let low : used ≤ 3 = omega arith in rw r.unit (pow-le-pow_right {n = 128} (lit≤ tt) low)
 
-none_left : {s : List ℕ} {at v w p l : ℕ} → Reading s at v w p l → l ≤ 0 → Malformed ≡ number_at s at
-unfolding groups
-none_left {s} {at} {v} {w} {p} {l} r h = let e : l ≡ 0 = omega arith in sym (r.same ∙ rw e)
+  -- a byte more
+  module _ {b : ℕ} {more' : List ℕ} (left' : ℕ) (cut : (more ≡ b ∷ more') × (left' + 1 ≡ left)) where
+    -- a group fits
+    room : (x : ℕ) → x < 128 → v + w * x < 2 ^ 32
+    room x h = omega (arith, small (omega (arith, cut.1)), r.low, scaled x h)
 
-low : (c : goal.Then-b-ge128) → get_or c.args.bytes.now c.loop-left.p 0 - 128 < 128
-low c =
-    omega (arith, c.shared_slice_known-1.given c.loop-left.p)
+    -- what the byte says
+    step : number_at s at
+        ≡ after v w (at + used) (pick (ltb b 128) (last (eqb used 0) b) (after (b - 128) 128 1 (groups false left' more')))
+    unfolding groups
+    step = r.same ∙ rw (cut.0, ← cut.1, add-one)
 
--- at the first byte
-first : (s : List ℕ) (at : ℕ) → Reading s at 0 1 at 4
-unfolding number_at
-first s at = record { few = lit≤ tt; low = lit≤ tt; unit = refl; same = refl }
+    -- it is the last: not 0, or alone
+    got : b < 128 → (b ≡ 0 → used ≡ 0) → number_at s at ≡ Got (v + w * b) (at + used + 1)
+    got h e =
+        step
+        ∙ rw (lt-ltb _ _ h)
+        (⊎_elim (λ some. rw (lt-ltb 0 b some, pick_same)) (λ none. rw (eq-eqb used 0 (e (omega arith)))) (either 0 b))
 
-pub loop-left-init : goal.loop-left-init
-loop-left-init c =
-    let now = first c.args.bytes.now c.args.at in
-    record { reading = now; long_end = λ inside h some h'. long now some inside h h' }
+    -- 0 with others before it
+    long : b ≡ 0 → 0 < used → number_at s at ≡ Malformed
+    long e h = step ∙ rw (e, ne_eqb used 0 (omega arith))
 
-pub returns-then-bytes-p : goal.returns-then-bytes-p
-returns-then-bytes-p c = ends c.loop-left.invariant.reading (search rules) c.if-bytes-p.true
+    -- or others follow
+    turn : 128 ≤ b → b < 256 → {used' : ℕ} → used' ≡ used + 1 → Reading s at (v + w * (b - 128)) (w * 128) rest used' left' more'
+    turn h l256 u =
+        rw u
+        record {
+          four = omega arith;
+          low = omega (arith, r.low, scaled (b - 128) (omega arith));
+          unit = rw (add-one, pow-suc, r.unit);
+          size = omega (arith, r.size, ap length cut.0);
+          same = step ∙ rw (le-ltb _ _ h, ne_eqb (used + 1) 0 (omega arith)) (after-after v w (at + used) (b - 128) 128 1 _ ∙ rw add_assoc);
+        }
 
-pub overflow_cast-b : goal.overflow_cast-b
-overflow_cast-b c = omega (arith, c.shared_slice_known-1.given c.loop-left.p)
+-- the bytes from a place on
+behind : (c : goal.After-into_iter-k-iterator) → c.unwrap_or-rest.result.now ≡ drop c.args.at c.args.bytes.now
+behind c = grind (arith, common_steps)
 
-pub overflow_mul-value : goal.overflow_mul-value
-overflow_mul-value c = omega (arith, room c.loop-left.invariant.reading (search rules) _ (low c))
+pub loop-k-init : goal.loop-k-init
+loop-k-init c = first _ _ (behind c) (cc) (cc) (cc)
 
-pub overflow_add-value : goal.overflow_add-value
-overflow_add-value c = record { fits = room c.loop-left.invariant.reading (search rules) _ (low c) }
-
-pub overflow_mul-weight : goal.overflow_mul-weight
-overflow_mul-weight c = omega (arith, small c.loop-left.invariant.reading (search rules))
-
-pub loop-left-preserved : goal.loop-left-preserved
-loop-left-preserved c =
-    let byte = (c.shared_slice_known-1.given c.loop-left.p).fits in
-    let now = turn c.loop-left.invariant.reading (search rules) (search rules) c.if-b-ge128.true byte in
-    record { reading = now; long_end = λ inside h some h'. long now some inside h h' }
+-- of the byte as the last
+last_fits : (c : goal.Joined-else-b-eq0) → c.loop-k.value + c.loop-k.weight * c.in-Some.byte.now < 2 ^ 32
+last_fits c = room c.loop-k.invariant _ c.in-Some.ensures.steps.0 _ c.if-b-lt128.true
 
 pub overflow_mul-result : goal.overflow_mul-result
-overflow_mul-result c = omega (arith, room c.loop-left.invariant.reading (search rules) _ c.if-b-ge128.false)
+overflow_mul-result c = omega (arith, last_fits c)
 
 pub overflow_add-result : goal.overflow_add-result
-overflow_add-result c = record { fits = room c.loop-left.invariant.reading (search rules) _ c.if-b-ge128.false }
+overflow_add-result c = omega (arith, last_fits c)
 
-pub returns-then-b-gt0 : goal.returns-then-b-gt0
-returns-then-b-gt0 c =
-    got c.loop-left.invariant.reading (search rules) (search rules) c.if-b-ge128.false c.if-b-gt0.true
+-- and as a group before others
+group_fits : (c : goal.Else-b-lt128) → c.loop-k.value + c.loop-k.weight * (c.in-Some.byte.now - 128) < 2 ^ 32
+group_fits c = room c.loop-k.invariant _ c.in-Some.ensures.steps.0 _ (omega arith)
 
-pub returns-else-b-ge128 : goal.returns-else-b-ge128
-returns-else-b-ge128 c =
-    zero_alone c.loop-left.invariant.reading (search rules) (search rules) c.if-b-gt0.false (omega arith)
+pub overflow_mul-value : goal.overflow_mul-value
+overflow_mul-value c = omega (arith, group_fits c)
+
+pub overflow_add-value : goal.overflow_add-value
+overflow_add-value c = omega (arith, group_fits c)
+
+pub loop-k-preserved : goal.loop-k-preserved
+loop-k-preserved c =
+    turn c.loop-k.invariant _ c.in-Some.ensures.steps.0 c.if-b-lt128.false (omega arith) c.in-Some.ensures.steps.2
+
+pub overflow_mul-weight : goal.overflow_mul-weight
+overflow_mul-weight c = omega (arith, small c.loop-k.invariant (omega (arith, c.in-Some.ensures.steps.0.1)))
+
+pub returns-then-b-lt128 : goal.returns-then-b-lt128
+returns-then-b-lt128 c =
+    let step = c.in-Some.ensures.steps in
+    rw step.1 (sym (ap as_read (got c.loop-k.invariant _ step.0 c.if-b-lt128.true (λ e. grind (arith, step.1)))))
+
+pub returns-then-not-alone : goal.returns-then-not-alone
+returns-then-not-alone c =
+    let step = c.in-Some.ensures.steps in
+    sym (ap as_read (long c.loop-k.invariant _ step.0 c.if-b-eq0.true (omega (arith, step.1))))
+
+pub returns-then-rest-lt4 : goal.returns-then-rest-lt4
+returns-then-rest-lt4 c =
+    sym (ap as_read (ends c.loop-k.invariant (λ some. (c.in-None.ensures.steps.0 some).0) c.if-rest-lt4.true))
 
 pub returns : goal.returns
-returns c = none_left c.loop-left.invariant.reading c.loop-left-test.false
+returns c = sym (ap as_read (full c.loop-k.invariant (λ some. (c.in-None.ensures.steps.0 some).0) c.if-rest-lt4.false))

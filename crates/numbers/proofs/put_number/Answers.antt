@@ -2,7 +2,7 @@
 use Prim.Native.Nat.{ℕ, ◌+◌, ◌/◌, ◌%◌, ◌≤◌, ◌<◌}
 use native.Mathlib.Numerals.{add-one}
 use native.Mathlib.Omega.{arith}
-use mathlib.Core.Path.{◌≡◌, refl, sym, ap, ◌∙◌}
+use mathlib.Core.Path.{◌≡◌, sym, ap, ◌∙◌}
 use mathlib.Core.List.{List}
 use lib.ListN.{length, set, length-set}
 use lib.Seq.{sets}
@@ -28,16 +28,9 @@ module _ {out₀ : List ℕ} {v : ℕ} {out : List ℕ} {rest p : ℕ} (w : Writ
       let one = encode_one rest h in
       record { size = omega (arith, w.size, ap length one); bytes = e ∙ sym (w.same ∙ ap (sets out p) one) }
 
-pub loop-rest-init : goal.loop-rest-init
-loop-rest-init c = record { few = omega arith; size = omega arith; long = refl; same = refl }
-
 pub loop-rest-preserved : goal.loop-rest-preserved
 loop-rest-preserved c =
     turn c.loop-rest.invariant _ c.loop-rest-test.true c.store.ensures
-
-pub shape_of-out : goal.shape_of-out
-shape_of-out c =
-    ap length c.store-2.ensures ∙ simp length-set c.loop-rest.invariant.long
 
 pub returns : goal.returns
 returns c =

@@ -1,14 +1,13 @@
 -- `table::coop_above` meets its contract. Assumes nothing.
-use borrow.Author.Tests.{eq-eqb, ne_eqb}
-use mathlib.Core.Bool.{and-false}
+use borrow.Author.Rules.{rules}
 use Rattle.table.specs.Clash.{coop_above}
+use Rattle.table.proofs.coop_above.Goals.{then-a-eq1, else-a-eq1}
 use Rattle.table.proofs.coop_above.Goals as goal
 
-pub returns-then-a-eq1 : goal.returns-then-a-eq1
-returns-then-a-eq1 c = unfold coop_above in rw (eq-eqb _ _ c.if-b-eq0.true, eq-eqb _ _ c.if-a-eq1.true)
-
-pub returns-else-a-eq1 : goal.returns-else-a-eq1
-returns-else-a-eq1 c = unfold coop_above in rw (ne_eqb _ _ c.if-a-eq1.false)
+pub returns-then-b-eq0 : goal.returns-then-b-eq0
+unfolding coop_above
+returns-then-b-eq0 c = elim c.if-a-eq1.branch [ then-a-eq1 w ↦ search rules | else-a-eq1 w ↦ search rules ]
 
 pub returns-else-b-eq0 : goal.returns-else-b-eq0
-returns-else-b-eq0 c = unfold coop_above in rw (ne_eqb _ _ c.if-b-eq0.false, and-false)
+unfolding coop_above
+returns-else-b-eq0 c = elim c.if-a-eq1.branch [ then-a-eq1 w ↦ search rules | else-a-eq1 w ↦ search rules ]

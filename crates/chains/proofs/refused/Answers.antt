@@ -1,6 +1,0 @@
--- `chains::refused` meets its contract. Assumes nothing.
-use mathlib.Core.Path.{refl}
-use Rattle.chains.proofs.refused.Goals as goal
-
-pub returns : goal.returns
-returns c = refl

@@ -1,6 +1,0 @@
--- `table::zeros` meets its contract. Assumes nothing.
-use Rattle.lists.specs.Lists.{each}
-use Rattle.table.proofs.zeros.Goals as goal
-
-pub returns : goal.returns
-returns c = unfold each in rw c.row_of-row.ensures
