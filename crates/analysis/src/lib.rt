@@ -20,7 +20,7 @@ pub struct Analysed {
     pub count: usize,
 }
 
-// What is said where no bound is written.
+// What is said where no bound is written (a name for it, where `From` would say nothing of bounds).
 fn refused(verdict: Verdict) -> Analysed
     ensures { result ≡ refusal verdict }
 {

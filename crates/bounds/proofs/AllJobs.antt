@@ -4,8 +4,9 @@ use mathlib.Core.Path.{◌≡◌, refl, sym, ap, ap₂, ◌∙◌}
 use mathlib.Core.List.{List, [], ◌∷◌}
 use native.Mathlib.Nat.{zero-mul, suc-mul}
 use native.Mathlib.Omega.{arith}
-use lib.ListN.{length, get_or, drop, get_or-replicate, length-replicate}
-use Rattle.lists.specs.Lists.{listed}
+use lib.ListN.{length, get_or, take, drop, get_or-replicate, length-replicate}
+use lib.Seq.{take-length}
+use Rattle.lists.specs.Lists.{listed, sum}
 use Rattle.lists.proofs.Listed.{listed_is, listed_at, listed-length}
 use Rattle.model.specs.Task.{cost, parts}
 use Rattle.model.specs.Least.{value, max_below}
@@ -46,6 +47,11 @@ module _ {own_first preempts : List Load} {own : Own} {times : List ℕ} (g : Ow
   -- with its cost
   own-cost : first_cost own_first ≡ cost t
   own-cost = ap first_cost g.loaded
+
+  -- which its times sum up to
+  pub times-cost : sum (take (length times) times) ≡ first_cost own_first
+  unfolding cost
+  times-cost = ap sum (take-length times ∙ g.timed) ∙ sym own-cost
 
   -- and the higher rows' numbers behind them
   highers_are : drop 1 own_first ≡ loads (higher rows t)

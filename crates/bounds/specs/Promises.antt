@@ -70,8 +70,9 @@ module _ (rows preempts : List Load) (own : Own) (times : List ℕ) where
   bounds_in = bounds_after (up own.window (first_period rows))
 
 -- what a job leaves
-pub record JobLeft (highers preempts : List Load) (coop : Bool) (job : Job) (times old new : List ℕ) (next : ℕ) : Type 0 where
+pub record JobLeft (highers preempts : List Load) (coop : Bool) (job : Job) (times old new : List ℕ) (base next : ℕ) : Type 0 where
   pub bounds : new ≡ raised highers preempts coop job times old
+  pub done : base ≡ base_at job times (length times)
   pub at : next ≡ job_next highers preempts coop job times
 
 -- `from` is at or below the least solution for a base over the higher rows

@@ -76,7 +76,7 @@ impl<'a> Loads<'a> {
         }
     }
 
-    // The number that a search finds, 0 for none.
+    // The number that a search finds, 0 for none, as the definition `solution` has it.
     fn solution(self, base: u64, from: u64) -> u64
         requires base_bound { base ≤ 2 ^ 62 }
         requires from_bound { from ≤ side self.rows.now base from }
@@ -147,12 +147,12 @@ impl<'a> Around<'a> {
         PartEnd { end, next: end }
     }
 
-    // One job: the bound of each part is raised to the job's response; where the next job's search may begin.
-    fn job_parts(self, job: Job, times: &[u32], bounds: &mut [u32]) -> u64
+    // One job: the bound of each part is raised to the job's response; what stands before the next job, and where its search may begin.
+    fn job_parts(self, job: Job, times: &[u32], bounds: &mut [u32]) -> (u64, u64)
         requires at_job { AtJob self.higher.rows.now self.preemptive.rows.now self.cooperative job times.now }
         requires bounds_len { length bounds.old ≡ length times.now }
         ensures { JobLeft self.entry.higher.rows.now self.entry.preemptive.rows.now self.entry.cooperative job times.now
-            bounds.old bounds.new result }
+            bounds.old bounds.new result.0 result.1 }
     {
         let mut done = job.base;
         let mut at = job.from;
@@ -164,7 +164,7 @@ impl<'a> Around<'a> {
             done += time;
             at = part.next;
         }
-        at
+        (done, at)
     }
 }
 
@@ -206,8 +206,7 @@ pub fn row_bounds<'a>(
     };
     // a job is more than its number, and each begins where the one before ended: a `while`
     while job.release < own.window {
-        let from = around.job_parts(job, times, bounds);
-        let base = job.base + first.cost as u64;
+        let (base, from) = around.job_parts(job, times, bounds);
         let release = job.release + first.period as u64;
         job = Job {
             base,

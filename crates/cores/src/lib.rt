@@ -38,7 +38,7 @@ fn sum_of(times: &[u32]) -> u32
     times.iter().sum()
 }
 
-// The largest of times, 0 for none.
+// The largest of times, 0 for none, as `largest` has it.
 fn largest_of(times: &[u32]) -> u32
     ensures { result ≡ largest times.now }
 {
@@ -121,7 +121,7 @@ pub fn preemptive_loads(asked: &[Asked]) -> ArrayVec<Load, 64>
     loads
 }
 
-// The longest part among the rows with a priority below this, 0 for none.
+// The longest part among the rows with a priority below this, 0 for none, as 01's B has it.
 fn longest_below(asked: &[Asked], priority: u32) -> u32
     ensures { result ≡ longest_below priority asked.now }
 {

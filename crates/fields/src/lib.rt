@@ -253,7 +253,7 @@ fn read_times<W: Way>(bytes: &[u8], at: usize, out: &mut [u32]) -> Result<usize,
 
 // The row that begins at `at`, its times stored behind the `used` ones that are already there.
 #[tactic(auto, using(crate::proofs::RowLaid::fields_then_times))]
-fn read_row<W: Way>(
+pub fn read_row<W: Way>(
     bytes: &[u8],
     at: usize,
     used: u32,

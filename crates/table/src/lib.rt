@@ -391,7 +391,7 @@ fn judge_row(row: &Row, i: usize, rest: &[u32]) -> Result<(), Verdict>
 }
 
 impl Table {
-    // A table with no rows: all zeros.
+    // A table with no rows: all zeros. Arrays of 64 and of 1,024 derive no `Default`.
     pub fn zeros() -> Table
         ensures { result ≡ stored [] }
     {

@@ -12,7 +12,7 @@ use Rattle.bounds.specs.declared.Job.{Job}
 use Rattle.bounds.specs.declared.Own.{Own}
 use Rattle.bounds.specs.Loads.{first_period, first_cost}
 use Rattle.bounds.specs.Promises.{OwnRow, AtJob, JobLeft, job_at, bounds_after, bounds_in}
-use Rattle.bounds.proofs.AllJobs.{first_period-at, first_cost-at, has_own, window_small}
+use Rattle.bounds.proofs.AllJobs.{first_period-at, has_own, times-cost, window_small}
 use Rattle.bounds.proofs.AllJobs.{at-job, base_small, job_in_window, jobs_past_window}
 use Rattle.bounds.proofs.row_bounds.Invariants.{JobsDone}
 use Rattle.bounds.proofs.row_bounds.Goals as goal
@@ -40,15 +40,15 @@ module _ {own_first preempts : List Load} {own : Own} {times bounds : List ℕ} 
     asked = rw d.stands (at-job g d.j looked)
 
     -- and the walk goes on
-    one_more : (new : List ℕ) (from : ℕ) → JobLeft (drop 1 own_first) preempts own.cooperative job times bounds new from
+    one_more : (new : List ℕ) (base from : ℕ) → JobLeft (drop 1 own_first) preempts own.cooperative job times bounds new base from
         → JobsDone own_first preempts own times new
-        (record { base = job.base + first_cost own_first; from = from; release = job.release + first_period own_first })
+        (record { base = base; from = from; release = job.release + first_period own_first })
     unfolding job_at bounds_after
-    one_more new from left =
+    one_more new base from left =
         record {
           j = suc d.j;
           few = looked;
-          stands = rw (left.at, d.stands);
+          stands = rw (left.done, left.at, times-cost g, d.stands);
           largest = rw (left.bounds, d.stands, d.largest);
         }
 
@@ -62,12 +62,9 @@ loop-job-init c =
       largest = c.fill.ensures.after (λ y e. e) ∙ ap (λ (n : ℕ). replicate n 0) c.requires.bounds_len;
     }
 
-pub job_parts-from-requires-clause-at_job : goal.job_parts-from-requires-clause-at_job
-job_parts-from-requires-clause-at_job c =
+pub job_parts-base-requires-clause-at_job : goal.job_parts-base-requires-clause-at_job
+job_parts-base-requires-clause-at_job c =
     rw (take_rest c.args.loads.rows.now 1) (asked c.requires.own_row c.loop-job.invariant c.loop-job-test.true)
-
-pub overflow_add-base : goal.overflow_add-base
-overflow_add-base c = omega (arith, fits c.requires.own_row c.loop-job.invariant c.loop-job-test.true)
 
 pub overflow_add-release : goal.overflow_add-release
 overflow_add-release c = omega (arith, window_small c.requires.own_row)
@@ -75,8 +72,8 @@ overflow_add-release c = omega (arith, window_small c.requires.own_row)
 pub loop-job-preserved : goal.loop-job-preserved
 loop-job-preserved c =
     let some = has_own c.requires.own_row in
-    let left = rw (take_rest c.args.loads.rows.now 1) at c.job_parts-from.ensures in
-    rw (first_cost-at, first_period-at) (one_more c.requires.own_row c.loop-job.invariant c.loop-job-test.true _ _ left)
+    let left = rw (take_rest c.args.loads.rows.now 1) at c.job_parts-base.ensures in
+    rw first_period-at (one_more c.requires.own_row c.loop-job.invariant c.loop-job-test.true _ _ _ left)
 
 pub returns : goal.returns
 returns c = all_done c.requires.own_row c.loop-job.invariant c.loop-job-test.false

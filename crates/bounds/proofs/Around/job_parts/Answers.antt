@@ -1,6 +1,6 @@
 -- `bounds::Around::job_parts` meets its contract: the parts before r are raised, and the job stands before part r.
 use Prim.Native.Nat.{◌≤◌}
-use mathlib.Core.Path.{◌≡◌, refl, sym, ap}
+use mathlib.Core.Path.{◌≡◌, refl, sym, ap, ◌∙◌}
 use native.Mathlib.Numerals.{add-one}
 use native.Mathlib.Omega.{arith}
 use lib.ListN.{length, get_or}
@@ -61,4 +61,9 @@ pub returns : goal.returns
 returns c =
     let s = c.loop-r.invariant in
     let all : c.loop-r.r ≡ length c.args.times.now = omega arith in
-    rw (s.bounds, s.from, all) record { bounds = over-listed-all _ _ _ c.requires.bounds_len; at = refl }
+    rw (s.bounds, s.from, all)
+    record {
+      bounds = over-listed-all _ _ _ c.requires.bounds_len;
+      done = s.base ∙ ap (base_at c.args.job c.args.times.now) all;
+      at = refl;
+    }
