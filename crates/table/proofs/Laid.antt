@@ -1,15 +1,14 @@
 -- Laying tasks in memory one after another: a row behind the rows, its times behind the times, zeros behind both. Assumes nothing.
-use Prim.Native.Nat.{ℕ, ◌+◌, ◌-◌, ◌≤◌, ◌<◌}
+use Prim.Native.Nat.{ℕ, ◌+◌, ◌≤◌, ◌<◌}
 use native.Mathlib.Omega.{arith}
 use mathlib.Core.Path.{◌≡◌, sym, ap, ◌∙◌}
 use mathlib.Core.List.{List, [], ◌∷◌, ◌++◌}
-use lib.ListN.{length, take, drop, set, length-append, length-drop}
-use lib.Seq.{sets, length-take-le}
+use lib.ListN.{length, set, length-append}
+use lib.Seq.{sets}
 use Rattle.lists.specs.Lists.{pad_to}
 use Rattle.lists.proofs.Each.{each_snoc}
 use Rattle.lists.proofs.Pads.{set-pad}
 use Rattle.lists.proofs.PadStores.{pad-length, sets-pad}
-use Rattle.lists.proofs.Stores.{sets-from}
 use Rattle.model.specs.Task.{Task}
 use Rattle.table.specs.declared.Row.{Row}
 use Rattle.table.specs.Memory.{zero_row, row_of, all_times, stored, rows_of}
@@ -30,10 +29,6 @@ module _ {mine : List Task} {rows : List Row} {times : List ℕ} {count kept : �
   -- there are always 1,024 times
   pub times_long : kept ≤ 1024 → length times ≡ 1024
   times_long h = ap length l.times_are ∙ pad-length 0 1024 (all_times mine) (omega (arith, l.total))
-
-  -- the part behind those that are kept, as code lends it, is what is left
-  pub behind-length : kept ≤ 1024 → length (take (1024 - kept) (drop kept times)) ≡ 1024 - kept
-  behind-length h = length-take-le (1024 - kept) (drop kept times) (rw (length-drop, times_long h) (omega arith))
 
   -- one task more, by its row and its times
   module _ (u : Task) (r : Row) (own : List ℕ) (row : r ≡ row_of u) (times-own : own ≡ u.times) where
@@ -60,11 +55,3 @@ module _ {mine : List Task} {rows : List Row} {times : List ℕ} {count kept : �
           rows_are = rows_more few;
           times_are = e ∙ times_more room;
         }
-
-    -- so where all the times that are left are lent, and put back
-    pub laid_more : (part : List ℕ) → count < 64 → kept + length own ≤ 1024 → part ≡ sets (take (1024 - kept) (drop kept times)) 0 own
-        → Laid (mine ++ (u ∷ [])) (set rows count r) (take kept times ++ (part ++ drop (1024 - kept) (drop kept times)))
-        (count + 1) (kept + r.parts)
-    laid_more part few room e =
-        let long : length times ≡ 1024 = times_long (omega arith) in
-        laid_sets _ few room (rw (e, ← long) (sets-from times kept own (omega arith)))

@@ -35,7 +35,9 @@ module _ {s : List ℕ} {table : Table} {used p : ℕ} (l : Reading s table used
 
   -- it has as many rows as its type says
   rows_long : length table.rows ≡ 64
-  rows_long = ap (λ (t : Table). length t.rows) l.far.is ∙ pad-length zero_row 64 (rows_of l.done) (omega (arith, rows-length l.done, l.far.few))
+  rows_long =
+      ap (λ (t : Table). length t.rows) l.far.is
+      ∙ pad-length zero_row 64 (rows_of l.done) (omega (arith, rows-length l.done, l.far.few))
 
   -- and as many times
   times_long : length table.times ≡ 1024

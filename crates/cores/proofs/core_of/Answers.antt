@@ -114,7 +114,8 @@ module _ {t : Table} {core : ℕ} {own : Table} {kept : ℕ} {asked : List Asked
         }
 
     -- any other is passed over
-    row_passed : {behind : List ℕ} → behind ≡ drop row.parts rest → (row.core ≡ core → ⊥) → Keeping t core own kept asked rows behind (i + 1)
+    row_passed : {behind : List ℕ} → behind ≡ drop row.parts rest → (row.core ≡ core → ⊥)
+        → Keeping t core own kept asked rows behind (i + 1)
     row_passed b off =
         rw b
         record {
