@@ -92,7 +92,6 @@ module _ {c : Core} (k : IsCore c) where
   pub enough : (bounds : ℕ) → bounds ≡ 1024 → BoundsFor c.own bounds
   enough bounds long =
       record {
-        rows = omega (arith, ap (λ (x : Core). x.own.count) k.is, k.good.few);
         parts = rw (rows-here, parts_in_lem (tasks_in c)) (omega (arith, k.fits));
         most = omega arith;
       }

@@ -24,6 +24,5 @@ core_bytes core rows bounds v = pick (eqb (code_of v) 11) [] (rows_text core row
 
 -- so many bounds are enough for a core's rows, and no more than a table's times
 pub record BoundsFor (own : Table) (bounds : ℕ) : Type 0 where
-  pub rows : own.count ≤ 64
   pub parts : parts_in (used_rows own) ≤ bounds
   pub most : bounds ≤ 1024
