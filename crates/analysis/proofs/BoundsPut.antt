@@ -24,7 +24,7 @@ use Rattle.table.specs.declared.Row.{Row}
 use Rattle.table.specs.declared.Verdict.{Verdict}
 use Rattle.table.specs.Memory.{all_times}
 use Rattle.cores.specs.declared.Core.{Core}
-use Rattle.cores.specs.Cores.{tasks_in}
+use Rattle.cores.specs.Cores.{tasks_in, used_asked}
 use Rattle.analysis.specs.Analysis.{core_bounds}
 use Rattle.analysis.specs.Promises.{Bounding, ToBound, bounds_on, window_length, late, higher_row, top_of, said_late, BoundedBy}
 use Rattle.analysis.proofs.Tops.{top_next, top_stays}
@@ -125,10 +125,10 @@ module _ {c : Core} {ws room₀ : List ℕ} (b : ToBound c ws (length room₀)) 
 
       module _ {times : List ℕ} (own : times ≡ w.task.times) where
         -- what its bounds ask for
-        abbrev pub bounding : Bounding c.asked.items i (get_or ws i 0) times
+        abbrev pub bounding : Bounding (used_asked c) i (get_or ws i 0) times
         bounding = record { at = at_row b.core i w.task w.place; windowed = window-here; timed = own }
 
-        module _ {put : List ℕ} (left : put ≡ bounds_on c.asked.items i (get_or ws i 0) times) where
+        module _ {put : List ℕ} (left : put ≡ bounds_on (used_asked c) i (get_or ws i 0) times) where
           -- the room with its bounds, as the code puts them
           abbrev pub room_next : List ℕ
           room_next = take a room ++ (put ++ drop (a + length times - a) (drop a room))

@@ -1,10 +1,12 @@
 -- A core as one value: its rows, what is asked of each, and what the searches of a row answer. Assumes nothing.
-use Prim.Native.Nat.{ℕ, ◌^◌, ◌≤◌, ◌<◌}
+use Prim.Native.Nat.{ℕ, ◌^◌, ◌≤◌, ◌<◌, min}
 use native.Mathlib.Omega.{arith}
 use mathlib.Core.Path.{◌≡◌, sym, ap, ◌∙◌}
-use mathlib.Core.List.{List, ◌∷◌}
+use mathlib.Core.List.{List, ◌∷◌, map}
+use lib.Dec.{eqb}
 use lib.ListN.{length, length-map, get_or}
-use Rattle.lists.specs.Lists.{◌∈◌, Place, keep}
+use lib.Seq.{take-append_seam}
+use Rattle.lists.specs.Lists.{◌∈◌, Place, keep, pad_to}
 use Rattle.lists.proofs.Places.{place_in_lem, place_below, place_some, place_get}
 use Rattle.model.specs.Task.{Task}
 use Rattle.model.specs.Bounds.{preemptive, cooperative, higher, blocking, window, row_bounds}
@@ -19,7 +21,7 @@ use Rattle.bounds.proofs.Asked.{window-asked, window-answered}
 use Rattle.bounds.proofs.AllJobs.{bounds-own}
 use Rattle.cores.specs.declared.Asked.{Asked}
 use Rattle.cores.specs.declared.Core.{Core}
-use Rattle.cores.specs.Cores.{asked_of, tasks_in}
+use Rattle.cores.specs.Cores.{asked_of, asked_nothing, tasks_in, used_asked}
 use Rattle.cores.specs.Promises.{asked_at, own_first, preemptive_loads, blocking_in, IsCore}
 use Rattle.cores.proofs.AskedRows.{asked_is, own_first_is, preemptive_is, blocking_in_is}
 use Rattle.analysis.specs.Analysis.{needed}
@@ -56,9 +58,18 @@ module _ {c : Core} (k : IsCore c) where
           row = ap (λ (l : List Row). get_or l i zero_row) (e ∙ rows_are) ∙ place_get row_of zero_row (tasks_in c) i w.0 w.1;
         }
 
+  -- what is asked of the rows that it uses
+  pub asks_are : used_asked c ≡ map asked_of (tasks_in c)
+  asks_are =
+      let few : length (tasks_in c) ≤ 64 = k.good.few in
+      let count : c.own.count ≡ length (tasks_in c) = ap (λ (x : Core). x.own.count) k.is in
+      let padded : c.asked ≡ pad_to asked_nothing 64 (map asked_of (tasks_in c)) = ap (λ (x : Core). x.asked) k.is in
+      let upto : min c.own.count 64 ≡ length (map asked_of (tasks_in c)) = omega (arith, count, few, length-map (tasks_in c) asked_of) in
+      rw (padded, upto) (take-append_seam (map asked_of (tasks_in c)) _)
+
   -- what its searches take of row i
-  abbrev pub at_row : (i : ℕ) (t : Task) → Place (tasks_in c) i t → AtRow c.asked.items i
-  at_row i t p = record { rows = tasks_in c; t = t; good = k.good; row = p; is = ap (λ (x : Core). x.asked.items) k.is }
+  abbrev pub at_row : (i : ℕ) (t : Task) → Place (tasks_in c) i t → AtRow (used_asked c) i
+  at_row i t p = record { rows = tasks_in c; t = t; good = k.good; row = p; is = asks_are }
 
 module _ {asked : List Asked} {own : ℕ} (a : AtRow asked own) where
   -- it is one of the rows
@@ -77,15 +88,16 @@ module _ {asked : List Asked} {own : ℕ} (a : AtRow asked own) where
 
   -- the preemptive rows
   pub preemptive-loads : preemptive_loads asked ≡ loads (keep preemptive a.rows)
-  preemptive-loads = rw a.is (preemptive_is a.rows a.good.good)
+  preemptive-loads = rw a.is (preemptive_is a.rows)
 
   -- its blocking
   pub own-blocking : blocking_in asked own ≡ blocking a.rows a.t
   own-blocking = rw a.is (blocking_in_is a.rows own a.t a.row)
 
   -- its kind
-  pub own-kind : (asked_at asked own).cooperative ≡ cooperative a.t
-  own-kind = rw a.is (ap (λ (x : Asked). x.cooperative) (asked_is a.rows own a.t a.row))
+  pub own-kind : eqb (asked_at asked own).kind 1 ≡ cooperative a.t
+  unfolding cooperative
+  own-kind = rw a.is (ap (λ (x : Asked). eqb x.kind 1) (asked_is a.rows own a.t a.row))
 
   -- what its search for a window asks
   pub window_may : Summable (own_first asked own) × ((0 < length (own_first asked own)) × (blocking_in asked own ≤ 2 ^ 62))
@@ -103,7 +115,7 @@ module _ {asked : List Asked} {own : ℕ} (a : AtRow asked own) where
 module _ {asked : List Asked} {own long : ℕ} {times : List ℕ} (b : Bounding asked own long times) where
   -- what the walk over its jobs asks
   abbrev pub bounds_may : OwnRow (own_first asked own) (preemptive_loads asked)
-      (record { cooperative = (asked_at asked own).cooperative; blocking = blocking_in asked own; window = long }) times
+      (record { cooperative = eqb (asked_at asked own).kind 1; blocking = blocking_in asked own; window = long }) times
   bounds_may =
       let a = b.at in
       record {

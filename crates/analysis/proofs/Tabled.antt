@@ -19,8 +19,7 @@ use Rattle.table.proofs.Codes.{passed, refused, good-code, or-good}
 use Rattle.table.proofs.ReadingCodes.{fault-reading}
 use Rattle.table.proofs.Stored.{tasks-stored}
 use Rattle.fields.specs.Stepping.{Step, stop, go}
-use Rattle.files.specs.Reading.{decode}
-use Rattle.files.specs.Promises.{Loads}
+use Rattle.files.specs.Reading.{decode, Loads}
 use Rattle.files.proofs.Stops.{stop_fault}
 use Rattle.cores.specs.declared.Core.{Core}
 use Rattle.cores.specs.Cores.{core_of, tasks_in}

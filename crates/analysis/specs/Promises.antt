@@ -1,5 +1,5 @@
 -- Inner: what the functions on the way to a core's answer take, and what they promise each other.
-use Rattle.std.specs.Prelude.{ℕ, ◌≤◌, ◌≡◌, Bool, not, List, map, length, ltb, Option, Some, None, Result, Ok, Err}
+use Rattle.std.specs.Prelude.{ℕ, ◌≤◌, ◌≡◌, Bool, not, List, map, length, eqb, ltb, Option, Some, None, Result, Ok, Err}
 use Rattle.std.proofs.Math.Option as M
 use Rattle.arrayvec.specs.ArrayVec.{ArrayVec}
 use Rattle.lists.specs.Lists.{Place, pick, over, total}
@@ -32,7 +32,7 @@ window_in asks own = (searched (own_first asks own) (blocking_in asks own) (firs
 unfoldable pub bounds_on : List Asked → ℕ → ℕ → List ℕ → List ℕ
 bounds_on asks own window times =
     bounds_in (own_first asks own) (preemptive_loads asks)
-    (record { cooperative = (asked_at asks own).cooperative; blocking = blocking_in asks own; window = window }) times
+    (record { cooperative = eqb (asked_at asks own).kind 1; blocking = blocking_in asks own; window = window }) times
 
 -- row `own` of a good core is t, and this is what the searches ask of each row
 pub record AtRow (asked : List Asked) (own : ℕ) : Type 0 where

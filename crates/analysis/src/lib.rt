@@ -56,8 +56,9 @@ fn windows(c: &Core) -> Result<ArrayVec<u64, 64>, Verdict>
 {
     let mut lengths = ArrayVec::new();
     let mut top = None;
+    let asked = c.used_asked();
     for (i, row) in c.own.used_rows().iter().enumerate() {
-        match row_window(c.asked.as_slice(), i) {
+        match row_window(asked, i) {
             Some(length) => lengths.push(length),
             None => top = higher_of(top, row),
         }
@@ -77,7 +78,7 @@ fn bounds_of_row(asked: &[Asked], own: usize, window: u64, times: &[u32], room: 
     let loads = cores::own_first(asked, own);
     let preemptive = cores::preemptive_loads(asked);
     let brings = Own {
-        cooperative: asked[own].cooperative,
+        cooperative: asked[own].kind == 1,
         blocking: cores::blocking_of(asked, own),
         window,
     };
@@ -95,13 +96,14 @@ fn core_bounds(c: &Core, windows: &[u64], room: &mut [u32]) -> Result<(), Verdic
     requires { ToBound c.now windows.now (length room.old) }
     ensures { BoundedBy (tasks_in c.now) room.old result room.new }
 {
+    let asked = c.used_asked();
     let mut top = None;
     let mut a = 0;
     let mut rest = &c.own.times[..];
     for (i, row) in c.own.used_rows().iter().enumerate() {
         let (times, behind) = rest.split_at(row.parts as usize);
         let e = a + times.len();
-        bounds_of_row(c.asked.as_slice(), i, windows[i], times, &mut room[a..e]);
+        bounds_of_row(asked, i, windows[i], times, &mut room[a..e]);
         if row.deadline < room[e - 1] {
             top = higher_of(top, row);
         }

@@ -11,7 +11,7 @@ use std::fs::File;
 use std::io::Read;
 use std::os::fd::AsRawFd;
 use std::rt::{Env, Files};
-use tell::STDERR_FILENO;
+use tell::{STDERR_FILENO, STDOUT_FILENO};
 
 // Says that a file cannot be read.
 fn tell_unreadable(name: &[u8]) {
@@ -47,16 +47,27 @@ fn read_front(
     Some(io::read_full(file.as_raw_fd(), bytes))
 }
 
-// Prints the delay, or what is refused and why. A failed write is left.
-fn print(rt: &impl Print, answer: Delayed) {
-    let verdict = answer.verdict;
+// Prints the delay, or what is refused and why. Piece by piece: each is tried, also where one before it failed.
+fn print(answer: Delayed) {
     match answer.about {
-        About::Chain => println!(rt; "delay {}", answer.delay),
-        About::File => println!(rt; "file {verdict}"),
-        About::List => println!(rt; "list {verdict}"),
-        About::Core(core) => println!(rt; "core {core} {verdict}"),
+        About::Chain => {
+            io::write_all(STDOUT_FILENO, b"delay ");
+            io::print_decimal(STDOUT_FILENO, answer.delay as u64);
+            io::write_all(STDOUT_FILENO, b"\n");
+            return;
+        }
+        About::File => {
+            io::write_all(STDOUT_FILENO, b"file");
+        }
+        About::List => {
+            io::write_all(STDOUT_FILENO, b"list");
+        }
+        About::Core(core) => {
+            io::write_all(STDOUT_FILENO, b"core ");
+            io::print_decimal(STDOUT_FILENO, core as u64);
+        }
     }
-    .ok();
+    tell::verdict(STDOUT_FILENO, answer.verdict);
 }
 
 // Whether the program was started with an argument of that number; its own name is number 0.
@@ -79,10 +90,10 @@ fn delay_of(rt: &(impl Env + Files<File = File>)) -> Option<Delayed> {
 
 fn main(rt: HostRuntime) {
     if !has_argument(&rt, 2) || has_argument(&rt, 3) {
-        eprintln!(rt; "chain: name a table file and a list file").ok();
+        io::write_all(STDERR_FILENO, b"chain: name a table file and a list file\n");
         return;
     }
     if let Some(answer) = delay_of(&rt) {
-        print(&rt, answer);
+        print(answer);
     }
 }

@@ -10,8 +10,7 @@ use Rattle.table.specs.declared.Verdict.{Verdict}
 use Rattle.table.specs.Memory.{tasks_of}
 use Rattle.table.proofs.Stored.{tasks-stored}
 use Rattle.fields.specs.Stepping.{Step, stop, go}
-use Rattle.files.specs.Reading.{decode}
-use Rattle.files.specs.Promises.{Loads}
+use Rattle.files.specs.Reading.{decode, Loads}
 use Rattle.chains.specs.declared.About.TheVariants as A
 use Rattle.chains.specs.declared.ChainStep.{ChainStep}
 use Rattle.chains.specs.Lists.{list_numbers}

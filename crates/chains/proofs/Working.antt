@@ -7,12 +7,10 @@ use mathlib.Core.Bool.{Bool, true, false}
 use mathlib.Core.List.Memᴰ
 use mathlib.Core.List.{List, [], ◌∷◌}
 use mathlib.Core.Logic.{◌⊎◌, inl, inr, ⊎_elim}
-use lib.ListN.{length, get_or, set, replicate, length-set}
+use lib.ListN.{length, get_or, set, length-set}
 use lib.Seq.{get_or-set_same}
 use Rattle.std.specs.Prelude.{Ok, Err}
 use Rattle.lists.specs.Lists.{◌∈◌}
-use Rattle.lists.proofs.Tests.{never}
-use Rattle.lists.proofs.Pads.{fill_at}
 use Rattle.lists.proofs.Stores.{set_cases}
 use Rattle.model.specs.Task.{Task}
 use Rattle.table.specs.Verdicts.{good}

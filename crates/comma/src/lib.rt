@@ -4,7 +4,7 @@
 ghost use Rattle.std.specs.Prelude.{◌≤◌, ◌≡◌, ◌++◌, [], length};
 ghost use Rattle.text.specs.Promises.{Fits};
 ghost use Rattle.table.specs.Memory.{tasks_of};
-ghost use Rattle.files.specs.Promises.{Loads};
+ghost use Rattle.files.specs.Reading.{Loads};
 ghost use Rattle.comma.specs.Reading.{decode_text, read_text};
 ghost use Rattle.comma.specs.Writing.{lines_of, WroteText};
 ghost use Rattle.comma.specs.Promises.{line_text};

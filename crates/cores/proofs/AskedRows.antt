@@ -1,17 +1,14 @@
 -- What is asked of a core's rows is what the model says of them: the rows of a sum, the blocking. Assumes nothing.
 use Prim.Native.Nat.{ℕ, ◌-◌}
-use native.Mathlib.Omega.{arith}
-use borrow.Author.Tests.{eqb-true, eqb-false, eq-eqb, ne_eqb}
 use mathlib.Core.Path.{◌≡◌, sym, ap, ◌∙◌}
-use mathlib.Core.Bool.{Bool, not}
+use mathlib.Core.Bool.{Bool}
 use mathlib.Core.List.{List, ◌∷◌, map, map-map}
-use lib.Dec.{ltb}
-use Rattle.lists.specs.Lists.{◌∈◌, keep, largest, Place}
+use lib.Dec.{eqb, ltb}
+use Rattle.lists.specs.Lists.{keep, largest, Place}
 use Rattle.lists.proofs.Tests.{by_test}
-use Rattle.lists.proofs.Keep.{keep-map, keep_same}
+use Rattle.lists.proofs.Keep.{keep-map}
 use Rattle.lists.proofs.Places.{place_get}
 use Rattle.model.specs.Task.{Task}
-use Rattle.model.specs.Rows.{GoodTask}
 use Rattle.model.specs.Bounds.{preemptive, cooperative, higher, lower, blocking}
 use Rattle.model.proofs.Blocking.{no_blocking, blocking_is}
 use Rattle.table.proofs.Stored.{tasks-stored}
@@ -30,20 +27,10 @@ loads_are p rows =
     ap (map (λ (a : Asked). a.load)) (keep-map p asked_of rows)
     ∙ map-map (λ (a : Asked). a.load) asked_of (keep (λ t. p (asked_of t)) rows)
 
--- a good row that is not cooperative is preemptive
-not-cooperative : (t : Task) → GoodTask t → not (cooperative t) ≡ preemptive t
-unfolding cooperative preemptive
-not-cooperative t g =
-    by_test (cooperative t)
-    (λ e. rw e (sym (ne_eqb t.kind 0 (λ z. omega (arith, eqb-true t.kind 1 e)))))
-    (λ e. rw e (sym (eq-eqb t.kind 0 (omega (arith, g.kind.most, eqb-false t.kind 1 e)))))
-
--- those of the preemptive rows, where the rows are good
-pub preemptive_is : (rows : List Task) → ((t : Task) → t ∈ rows → GoodTask t)
-    → preemptive_loads (map asked_of rows) ≡ loads (keep preemptive rows)
-preemptive_is rows good =
-    loads_are (λ a. not a.cooperative) rows
-    ∙ ap loads (keep_same (λ t. not (cooperative t)) preemptive rows (λ t m. not-cooperative t (good t m)))
+-- those of the preemptive rows
+pub preemptive_is : (rows : List Task) → preemptive_loads (map asked_of rows) ≡ loads (keep preemptive rows)
+unfolding preemptive
+preemptive_is rows = loads_are (λ a. eqb a.kind 0) rows
 
 -- the longest part among the rows below a priority
 longest_is : (priority : ℕ) (rows : List Task)
@@ -65,7 +52,7 @@ module _ (rows : List Task) (i : ℕ) (t : Task) (at : Place rows i t) where
 
   -- its blocking
   pub blocking_in_is : blocking_in (map asked_of rows) i ≡ blocking rows t
-  unfolding lower
+  unfolding cooperative lower
   blocking_in_is =
       rw asked_is
       (by_test (cooperative t)

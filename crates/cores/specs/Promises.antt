@@ -1,5 +1,5 @@
 -- Inner: what the functions on what is asked of rows promise, in those numbers.
-use Rattle.std.specs.Prelude.{ℕ, ◌-◌, ◌≤◌, ◌≡◌, Bool, not, List, ◌∷◌, map, get_or, ltb}
+use Rattle.std.specs.Prelude.{ℕ, ◌-◌, ◌≤◌, ◌≡◌, Bool, List, ◌∷◌, map, get_or, eqb, ltb}
 use Rattle.std.specs.Fn.{Shared, FnReturnsAt}
 use Rattle.std.proofs.Common.{Bor}
 use Rattle.lists.specs.Lists.{pick, keep, largest, total}
@@ -28,7 +28,7 @@ own_first rows i = (asked_at rows i).load ∷ wanted_loads (λ a. ltb (asked_at 
 
 -- those of the preemptive rows
 abbrev pub preemptive_loads : List Asked → List Load
-preemptive_loads rows = wanted_loads (λ a. not a.cooperative) rows
+preemptive_loads rows = wanted_loads (λ a. eqb a.kind 0) rows
 
 -- the longest part among the rows below a priority
 abbrev pub longest_below : ℕ → List Asked → ℕ
@@ -36,7 +36,7 @@ longest_below priority rows = largest (map (λ a. a.longest) (keep (λ a. ltb a.
 
 -- the blocking of row i: for a cooperative row the longest part below it less one tick, where 0 - 1 is 0; else 0
 abbrev pub blocking_in : List Asked → ℕ → ℕ
-blocking_in rows i = pick (asked_at rows i).cooperative (longest_below (asked_at rows i).priority rows - 1) 0
+blocking_in rows i = pick (eqb (asked_at rows i).kind 1) (longest_below (asked_at rows i).priority rows - 1) 0
 
 -- a core of a good table as one value
 pub record IsCore (c : Core) : Type 0 where

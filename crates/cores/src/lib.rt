@@ -1,34 +1,51 @@
 // One core of a table as one value, and from what the searches ask of its rows: the rows of a sum, and the blocking.
 #![tactic(auto)]
 
-ghost use Rattle.std.specs.Prelude.{◌≡◌, ◌++◌, ◌+◌, ◌≤◌, ◌<◌, Bool, length, not};
+ghost use Rattle.std.specs.Prelude.{◌≡◌, ◌++◌, ◌+◌, ◌≤◌, ◌<◌, Bool, length};
 ghost use Rattle.lists.specs.Lists.{sum, largest};
 ghost use Rattle.model.specs.Bounds.{on_core};
 ghost use Rattle.table.specs.Memory.{task_of, tasks_of};
 ghost use Rattle.cores.specs.declared.Asked.{Asked};
-ghost use Rattle.cores.specs.Cores.{asked_of, core_of};
+ghost use Rattle.cores.specs.Cores.{asked_of, core_of, used_asked};
 ghost use Rattle.cores.specs.Promises.{IsCore, Computes, wanted_loads, own_first, preemptive_loads, longest_below, blocking_in};
 
 use arrayvec::ArrayVec;
 use bounds::Load;
 use table::{GoodTable, Row, Table};
 
-// What the searches ask of a row.
+// What the searches ask of a row. Its kind is a number, as in a `Row`: only 0 is preemptive, only 1 cooperative.
 #[derive(Clone, Copy, Default)]
 pub struct Asked {
-    pub cooperative: bool,
+    pub kind: u32,
     pub priority: u32,
     pub load: Load,
     pub longest: u32,
 }
 
 // One core's rows in table order, as a table of their own, and what the searches ask of each; `parts` is how many parts they have.
-#[derive(Drop)]
+#[derive(Clone, Copy)]
 pub struct Core {
     pub own: Table,
     pub parts: usize,
-    pub asked: ArrayVec<Asked, 64>,
+    pub asked: [Asked; 64],
 }
+
+impl Core {
+    // What the searches ask of each row that is used. An `ArrayVec` in the core would keep it from being `Copy`.
+    pub fn used_asked(&self) -> &[Asked]
+        ensures { result.now ≡ used_asked self.now }
+    {
+        &self.asked[..self.own.count.min(64)]
+    }
+}
+
+// What is asked where there is no row.
+const NOTHING: Asked = Asked {
+    kind: 0,
+    priority: 0,
+    load: Load { period: 0, cost: 0 },
+    longest: 0,
+};
 
 // The sum of times.
 fn sum_of(times: &[u32]) -> u32
@@ -52,7 +69,7 @@ fn asked_of(row: &Row, times: &[u32]) -> Asked
 {
     let cost = sum_of(times);
     Asked {
-        cooperative: row.kind == 1,
+        kind: row.kind,
         priority: row.priority,
         load: Load {
             period: row.period,
@@ -69,7 +86,7 @@ pub fn core_of(t: &GoodTable, core: u32) -> Core
 {
     let mut own = Table::zeros();
     let mut parts = 0;
-    let mut asked = ArrayVec::new();
+    let mut asked = [NOTHING; 64];
     let mut rest = &t.table.times[..];
     for row in t.table.used_rows() {
         let (times, behind) = rest.split_at(row.parts as usize);
@@ -77,9 +94,9 @@ pub fn core_of(t: &GoodTable, core: u32) -> Core
         if row.core == core {
             own.times[parts..parts + times.len()].copy_from_slice(times);
             own.rows[own.count] = *row;
+            asked[own.count] = asked_of(row, times);
             own.count += 1;
             parts += times.len();
-            asked.push(asked_of(row, times));
         }
     }
     Core { own, parts, asked }
@@ -117,7 +134,7 @@ pub fn preemptive_loads(asked: &[Asked]) -> ArrayVec<Load, 64>
     ensures { result.items ≡ preemptive_loads asked.now }
 {
     let mut loads = ArrayVec::new();
-    put_loads(asked, |a| !a.cooperative, &mut loads);
+    put_loads(asked, |a| a.kind == 0, &mut loads);
     loads
 }
 
@@ -139,7 +156,7 @@ pub fn blocking_of(asked: &[Asked], own: usize) -> u64
     ensures { result ≡ blocking_in asked.now own }
 {
     let a = &asked[own];
-    if !a.cooperative {
+    if a.kind != 1 {
         return 0;
     }
     longest_below(asked, a.priority).saturating_sub(1) as u64

@@ -5,7 +5,7 @@ use tell::{STDIN_FILENO, STDOUT_FILENO};
 
 // Reads a table file on standard input, of which 5,124 bytes are enough to judge it, and writes its lines; of a refused file it writes
 // only a line on standard error.
-fn main(rt: HostRuntime) {
+fn main() {
     let mut bytes = [0u8; 5124];
     let n = io::read_full(STDIN_FILENO, &mut bytes);
     match files::load(&bytes[..n]) {
@@ -14,6 +14,6 @@ fn main(rt: HostRuntime) {
             let wrote = comma::write(&good.table, &mut out);
             io::write_all(STDOUT_FILENO, &out[..wrote.count]);
         }
-        Err(refusal) => tell::refusal(&rt, "file", refusal),
+        Err(refusal) => tell::refusal(b"file", refusal),
     }
 }

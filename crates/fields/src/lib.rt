@@ -38,6 +38,7 @@ pub trait Way {
 }
 
 // In a file: in groups of seven bits.
+#[derive(Clone, Copy)]
 pub struct Seven;
 
 impl Way for Seven {
@@ -53,6 +54,7 @@ impl Way for Seven {
 }
 
 // In a line of text: in decimal, a comma behind each but the last.
+#[derive(Clone, Copy)]
 pub struct Commas;
 
 impl Way for Commas {
@@ -88,7 +90,8 @@ fn byte_at(text: &[u8], at: usize) -> u8
     text.get(at).copied().unwrap_or(0)
 }
 
-// The digits that stand at a place.
+// The digits that stand at a place. They are gone over twice, here and in `numeral`: in line, since a call for each pass shows in time.
+#[inline(always)]
 fn digits_at(text: &[u8], at: usize) -> &[u8]
     ensures { result.now ≡ digits_in (drop at text.now) }
 {
@@ -98,6 +101,7 @@ fn digits_at(text: &[u8], at: usize) -> &[u8]
 }
 
 // The number that digits make, held at 16,777,216, which is above every range.
+#[inline(always)]
 #[tactic(auto, using(crate::proofs::Numbered::digit_by_digit))]
 fn numeral(digits: &[u8]) -> u32
     requires { digits_in digits.now ≡ digits.now }
@@ -111,6 +115,7 @@ fn numeral(digits: &[u8]) -> u32
 }
 
 // The decimal number that begins at `at`.
+#[inline(always)]
 #[tactic(auto, using(crate::proofs::Decimal::by_digits))]
 fn decimal_at(text: &[u8], at: usize) -> Result<Read<u32>, Verdict>
     ensures { result ≡ as_read (held (decimal_at text.now at)) }
@@ -257,9 +262,10 @@ pub fn read_row<W: Way>(
     bytes: &[u8],
     at: usize,
     used: u32,
-    times: &mut [u32; 1024],
+    times: &mut [u32],
 ) -> Result<Read<Row>, Verdict>
-    requires { used ≤ 1024 }
+    requires before { used ≤ 1024 }
+    requires room { length times.old ≡ 1024 }
     ensures { RowInto (row_in W.way bytes.now used at) used times.old result times.new }
 {
     let Read { value: row, next } = read_head::<W>(bytes, at, used)?;

@@ -6,18 +6,20 @@ use mathlib.Core.Path.{◌≡◌, refl, sym, ap, ◌∙◌}
 use mathlib.Core.List.{List, [], ◌∷◌, ◌++◌}
 use lib.ListN.{length}
 use Rattle.std.specs.Prelude.{Result, Err}
-use Rattle.lists.proofs.Tests.{never}
+use Rattle.lists.proofs.Tests.{by_test, never}
 use Rattle.model.specs.Task.{Task}
 use Rattle.table.specs.declared.GoodTable.{GoodTable}
 use Rattle.table.specs.declared.Verdict.{Verdict}
-use Rattle.table.specs.Verdicts.{code_of, judged}
+use Rattle.table.specs.Verdicts.{code_of, good, judged}
 use Rattle.table.specs.Written.{none_written, Writes}
 use Rattle.table.proofs.Codes.{is_good, refused}
 use Rattle.table.proofs.Writes.{refuses_fault}
-use Rattle.table.specs.Memory.{all_times}
-use Rattle.fields.specs.Stepping.{Step, stop, go, ◌then◌}
-use Rattle.files.specs.Reading.{row_at, rows_at, loaded}
-use Rattle.files.specs.Promises.{Loads, loaded_by}
+use Rattle.table.specs.Memory.{all_times, rows_of, stored}
+use Rattle.table.specs.Clash.{clash_of}
+use Rattle.table.proofs.Stored.{stored-rows}
+use Rattle.fields.specs.Stepping.{Step, stop, go, ◌then◌, unless}
+use Rattle.files.specs.Reading.{row_at, rows_at, loaded, Loads}
+use Rattle.files.specs.Promises.{loaded_by, answer_with}
 
 -- one row more, or none
 module _ (k : ℕ) (done : List Task) (s : List ℕ) (p : ℕ) (some : 0 < k) where
@@ -46,6 +48,11 @@ module _ (k : ℕ) (done : List Task) (s : List ℕ) (p : ℕ) (some : 0 < k) wh
 pub loads_loaded : (x : Step (List Task)) (r : Result GoodTable Verdict) → Loads x r → loaded_by r ≡ loaded x
 loads_loaded (stop v) r e = ap loaded_by e
 loads_loaded (go tasks n) r l = rw (l.1, l.2)
+
+-- the answer with stored tasks is what the definition says after the last row
+pub answer-stored : (ts : List Task) (at : ℕ) → answer_with (stored ts) ≡ loaded (unless (clash_of (rows_of ts)) ts at)
+unfolding answer_with unless
+answer-stored ts at = rw (stored-rows ts) (by_test (good (clash_of (rows_of ts))) (λ e. rw e) (λ e. rw e))
 
 -- where a check refuses, nothing is written
 pub writes_refused : (fault : Verdict) (new out : List ℕ) {v : Verdict} → judged fault ≡ Err v → Writes fault new out (none_written v) out

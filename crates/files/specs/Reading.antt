@@ -1,7 +1,9 @@
 -- Document 01, "The file" and "Codes and what they leave": reading goes number by number, and the first fault met is given.
-use Rattle.std.specs.Prelude.{ℕ, zero, suc, List, [], ◌∷◌, ◌++◌, length, ltb}
+use Rattle.std.specs.Prelude.{ℕ, zero, suc, ◌≡◌, List, [], ◌∷◌, ◌++◌, length, ltb, Result, Ok, Err}
 use Rattle.lists.specs.Lists.{pick}
 use Rattle.model.specs.Task.{Task}
+use Rattle.table.specs.declared.GoodTable.{GoodTable}
+use Rattle.table.specs.declared.Verdict.{Verdict}
 use Rattle.table.specs.declared.Verdict.TheVariants.{Good, Trailing}
 use Rattle.table.specs.Fields.{field}
 use Rattle.fields.specs.Stepping.{Step, stop, go, ◌then◌, unless, field_at, times_at, row_by}
@@ -33,3 +35,8 @@ loaded (go tasks next) = record { verdict = Good; table = stored tasks }
 
 unfoldable pub read_answer : List ℕ → Loaded
 read_answer s = loaded (decode s)
+
+-- what reading gives, by what the definition says: refused, or the table of the tasks
+abbrev pub Loads : Step (List Task) → Result GoodTable Verdict → Type 0
+Loads (stop v) r = r ≡ Err v
+Loads (go tasks next) r = (t : GoodTable) × (r ≡ Ok t) × (t.table ≡ stored tasks)

@@ -7,8 +7,8 @@ ghost use Rattle.numbers.specs.Numbers.{encode_all};
 ghost use Rattle.table.specs.Memory.{tasks_of};
 ghost use Rattle.table.specs.Written.{Writes};
 ghost use Rattle.table.specs.declared.Verdict.TheVariants.{Good};
-ghost use Rattle.files.specs.Reading.{rows_at, decode, read_answer};
-ghost use Rattle.files.specs.Promises.{as_stored, Loads, loaded_by, Fitted};
+ghost use Rattle.files.specs.Reading.{rows_at, decode, read_answer, Loads};
+ghost use Rattle.files.specs.Promises.{as_stored, loaded_by, answer_with, Fitted};
 ghost use Rattle.files.specs.Writing.{file_numbers, file_of, Wrote};
 
 use arrayvec::ArrayVec;
@@ -46,6 +46,20 @@ const ROW_COUNT: Wanted = Wanted {
     high: 64,
     left: 64,
 };
+
+// The answer with this table: the rules over the whole of it, and where none is broken the table itself. It stands beside `load`, since
+// it takes any table, also one with faults other than clashes.
+pub fn answer_with(table: Table) -> Loaded
+    ensures { result ≡ answer_with table }
+{
+    match table.check_clashes() {
+        Ok(()) => Loaded {
+            verdict: Verdict::Good,
+            table,
+        },
+        Err(refusal) => Loaded::from(Err(refusal)),
+    }
+}
 
 // The `n` rows that begin at `at`, as a table, and where reading goes on.
 fn read_rows(bytes: &[u8], at: usize, n: u32) -> Result<Read<Table>, Verdict>

@@ -2,13 +2,14 @@
 use Prim.Native.Nat.{ℕ, zero, suc, ◌+◌, ◌-◌, ◌*◌, ◌/◌, ◌%◌, ◌^◌, ◌≤◌, ◌<◌}
 use native.Mathlib.Nat.{mul_assoc, mul-add, add_assoc, suc-add, pow-suc}
 use native.Mathlib.Decide.{dec_lt}
+use native.Mathlib.Numerals.{add-one, sub-one}
 use native.Mathlib.Omega.{arith}
 use borrow.Author.Tests.{lt-ltb, le-ltb}
 use mathlib.Core.Path.{◌≡◌, refl, sym, ap, ap₂, ◌∙◌}
 use mathlib.Core.List.{List, [], ◌∷◌}
 use mathlib.Core.Bool.{Bool, true, false}
-use lib.ListN.{length, take}
-use lib.Seq.{take-nil}
+use lib.ListN.{length, get_or, take, drop, drop_of_length-le}
+use lib.Seq.{drop-cons, take-nil}
 use lib.Dec.{ltb}
 use Rattle.lists.specs.Lists.{pick}
 use Rattle.numbers.specs.Numbers.{Number}
@@ -21,6 +22,20 @@ pub after-after : (v w u v' w' u' : ℕ) (x : Number)
 after-after v w u v' w' u' (Got x n) = ap₂ Got (simp (mul-add, add_assoc, mul_assoc)) (simp add_assoc)
 after-after v w u v' w' u' EndsEarly = refl
 after-after v w u v' w' u' Malformed = refl
+
+-- nothing stands past the end
+pub groups-end : (alone : Bool) (k p : ℕ) (s : List ℕ) → 0 < k → length s ≤ p → groups alone k (drop p s) ≡ EndsEarly
+unfolding groups
+groups-end alone zero p s h l = absurd (omega arith)
+groups-end alone (suc k) p s h l = rw (drop_of_length-le s l)
+
+-- a byte at a place, and what follows it
+pub groups-cons : (alone : Bool) (k p : ℕ) (s : List ℕ) → 0 < k → p < length s
+    → groups alone k (drop p s)
+    ≡ pick (ltb (get_or s p 0) 128) (last alone (get_or s p 0)) (after (get_or s p 0 - 128) 128 1 (groups false (k - 1) (drop (p + 1) s)))
+unfolding groups
+groups-cons alone zero p s h l = absurd (omega arith)
+groups-cons alone (suc k) p s h l = rw (sub-one, add-one, drop-cons s p 0)
 
 -- only the first k bytes have a say
 pub groups-front : (alone : Bool) (k m : ℕ) (s : List ℕ) → groups alone k (take (k + m) s) ≡ groups alone k s

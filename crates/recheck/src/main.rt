@@ -27,5 +27,9 @@ fn main(rt: HostRuntime) {
     let mut bytes = [0u8; 5124];
     let n = io::read_full(STDIN_FILENO, &mut bytes);
     let last = Verdict::from(recheck(&bytes[..n]));
-    println!(rt; "{} {}", last.code(), last.number()).ok();
+    // piece by piece: each is tried, also where one before it failed
+    print!(rt; "{}", last.code()).ok();
+    print!(rt; " ").ok();
+    print!(rt; "{}", last.number()).ok();
+    println!(rt).ok();
 }

@@ -18,8 +18,7 @@ use Rattle.table.proofs.Stored.{tasks-stored}
 use Rattle.table.proofs.GoodTasks.{GoodTasks, times_fit, stored-good}
 use Rattle.table.proofs.EachGood.{each-good}
 use Rattle.fields.specs.Stepping.{Step, stop, go}
-use Rattle.files.specs.Reading.{decode}
-use Rattle.files.specs.Promises.{Loads}
+use Rattle.files.specs.Reading.{decode, Loads}
 use Rattle.files.proofs.Enough.{decodes_alike}
 use Rattle.files.proofs.Back.{file_back}
 use Rattle.files.proofs.Carried.{carried}

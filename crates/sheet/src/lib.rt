@@ -1,7 +1,7 @@
 // The printed timing sheet: worked out core by core and written line by line.
 #![tactic(auto)]
 
-ghost use Rattle.std.specs.Prelude.{◌+◌, ◌<◌, ◌≤◌, ◌≡◌, ◌++◌, length};
+ghost use Rattle.std.specs.Prelude.{◌+◌, ◌<◌, ◌≤◌, ◌≡◌, [], ◌++◌, length};
 ghost use Rattle.table.specs.Memory.{used_rows, tasks_of};
 ghost use Rattle.text.specs.Text.{line};
 ghost use Rattle.text.specs.Promises.{Fits};
@@ -120,21 +120,22 @@ fn put_cores(paper: &mut Paper, t: &GoodTable)
     }
 }
 
-// The sheet of a file, read once.
-fn sheet_of(bytes: &[u8]) -> Paper
-    ensures { result ≡ sheet_text bytes.now }
+// Writes the sheet of a file, read once, on a page that is lent: handed back by value it would be copied.
+fn put_sheet(paper: &mut Paper, bytes: &[u8])
+    requires { paper.old ≡ [] }
+    ensures { paper.new ≡ sheet_text bytes.now }
 {
-    let mut paper = Page::new();
     match files::load(bytes) {
-        Ok(good) => put_cores(&mut paper, &good),
-        Err(refusal) => put_file_line(&mut paper, refusal),
+        Ok(good) => put_cores(paper, &good),
+        Err(refusal) => put_file_line(paper, refusal),
     }
-    paper
 }
 
 // Prints the sheet of a file: worked out first, and written only where it fits.
 pub fn sheet(bytes: &[u8], out: &mut [u8]) -> Written
     ensures { Prints bytes.now out.old result out.new }
 {
-    files::write_bytes(sheet_of(bytes).as_slice(), out)
+    let mut paper = Page::new();
+    put_sheet(&mut paper, bytes);
+    files::write_bytes(paper.as_slice(), out)
 }

@@ -12,8 +12,8 @@ use Rattle.model.specs.Task.{Task}
 use Rattle.model.specs.Rows.{GoodTask}
 use Rattle.table.specs.declared.Row.{Row}
 use Rattle.table.specs.declared.GoodTable.{GoodTable}
-use Rattle.table.specs.Memory.{zero_row, row_of, all_times, used_rows, used_times, parts_in, tasks_of, rows_of}
-use Rattle.table.proofs.Stored.{times-found}
+use Rattle.table.specs.Memory.{zero_row, row_of, all_times, stored, used_rows, used_times, parts_in, tasks_of, rows_of}
+use Rattle.table.proofs.Stored.{stored-rows, times-found}
 use Rattle.table.proofs.GoodTasks.{rows_same}
 use Rattle.table.proofs.EachGood.{each-good}
 
@@ -69,7 +69,13 @@ module _ {rows : List Row} {times : List ℕ} {i : ℕ} where
   none_left (u ∷ us) l h =
       let none : drop i rows ≡ [] = drop_of_length-le rows h in absurd (omega (arith, ap length (sym none ∙ l.rows_are)))
 
--- where a walk starts: all rows and times of a good table are left
+-- ---- where a walk starts
+
+-- at stored good tasks: all are left, also where two of them clash
+pub stored_ahead : (ts : List Task) → ((u : Task) → u ∈ ts → GoodTask u) → Left (used_rows (stored ts)) (stored ts).times 0 ts
+stored_ahead ts good = record { good = good; rows_are = stored-rows ts; more = _; times_are = refl }
+
+-- at a good table: all its rows and times are left
 pub all_left : (t : GoodTable) → Left (used_rows t.table) t.table.times 0 (tasks_of t.table)
 all_left t =
     let own : all_times (tasks_of t.table) ≡ used_times t.table = unfold tasks_of in times-found (used_rows t.table) t.table.times in

@@ -4,7 +4,7 @@ use native.Mathlib.Omega.{arith}
 use mathlib.Core.Path.{◌≡◌, ap, ◌∙◌}
 use lib.ListN.{length, get_or}
 use Rattle.table.specs.Memory.{zero_row}
-use Rattle.cores.specs.Cores.{tasks_in}
+use Rattle.cores.specs.Cores.{tasks_in, used_asked}
 use Rattle.analysis.specs.Promises.{bounds_on}
 use Rattle.analysis.proofs.Cored.{Coming, coming, as_many}
 use Rattle.analysis.proofs.Tops.{said_none, said_some}
@@ -34,8 +34,8 @@ module _ (c : After-split_at) where
 -- its bounds are those that the row has
 put : (c : After-bounds_of_row)
     → c.bounds_of_row.new.room
-    ≡ bounds_on c.args.c.now.asked.items c.loop-i.i (get_or c.args.windows.now c.loop-i.i 0) c.split_at.result.0.now
-put c = rw (c.bounds_of_row.ensures, c.as_slice.ensures.value)
+    ≡ bounds_on (used_asked c.args.c.now) c.loop-i.i (get_or c.args.windows.now c.loop-i.i 0) c.split_at.result.0.now
+put c = rw (c.bounds_of_row.ensures, c.used_asked-asked.ensures)
 
 pub loop-i-init : goal.loop-i-init
 loop-i-init c = none_put c.requires
@@ -55,7 +55,7 @@ slice_bounds-bounds_of_row-end c = omega (arith, fit (goal.at.slice_bounds-bound
 pub bounds_of_row-requires-clause-bounding : goal.bounds_of_row-requires-clause-bounding
 bounds_of_row-requires-clause-bounding c =
     let s = (goal.at.bounds_of_row-requires-clause-bounding c).After-split_at in
-    rw c.as_slice.ensures.value (bounding c.requires c.loop-i.invariant (row s) (own s))
+    rw c.used_asked-asked.ensures (bounding c.requires c.loop-i.invariant (row s) (own s))
 
 pub overflow_sub-e : goal.overflow_sub-e
 overflow_sub-e c =

@@ -14,7 +14,7 @@ loop-i-init c = none_sought _ c.new-lengths.ensures
 pub row_window-requires : goal.row_window-requires
 row_window-requires c =
     let w = coming c.requires c.used_rows-row-items.ensures c.loop-i.i c.loop-i-test.true in
-    rw c.as_slice.ensures.value (at_row c.requires c.loop-i.i w.task w.place)
+    rw c.used_asked-asked.ensures (at_row c.requires c.loop-i.i w.task w.place)
 
 pub push-requires : goal.push-requires
 push-requires c =
@@ -25,7 +25,7 @@ loop-i-preserved c =
     let s = c.loop-i.invariant in
     let w = coming c.requires c.used_rows-row-items.ensures c.loop-i.i c.loop-i-test.true in
     let e : c.row_window.result ≡ window (tasks_in c.args.c.now) w.task
-    = rw (c.row_window.ensures, c.as_slice.ensures.value) (window_in_lem (at_row c.requires c.loop-i.i w.task w.place)) in
+    = rw (c.row_window.ensures, c.used_asked-asked.ensures) (window_in_lem (at_row c.requires c.loop-i.i w.task w.place)) in
     elim c.match-row_window.branch [
       | in-Some b ↦ has_next s w.task w.place (sym e ∙ b.in-Some.is) (rw b.lengths-is b.push.ensures.items) b.top-is
       | in-None b ↦

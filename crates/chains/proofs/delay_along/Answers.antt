@@ -3,8 +3,7 @@ use borrow.Author.Rules.{rules}
 use mathlib.Core.Path.{◌≡◌, sym, ◌∙◌}
 use Rattle.std.specs.Prelude.{Ok, Err}
 use Rattle.std.proofs.lemmas.Result.{err_from_is_err_and}
-use Rattle.files.specs.Reading.{decode}
-use Rattle.files.specs.Promises.{Loads}
+use Rattle.files.specs.Reading.{decode, Loads}
 use Rattle.chains.specs.declared.About.TheVariants as A
 use Rattle.chains.specs.Lists.{list_numbers}
 use Rattle.chains.specs.Promises.{as_steps}

@@ -1,10 +1,12 @@
 -- `cores::core_of` meets its contract. The invariant: the core's rows so far lie in memory, with what is asked of each, and those left
 -- follow. Assumes nothing.
-use Rattle.std.proofs.Common.{◌≡◌, refl, sym, ap, ◌∙◌, ℕ, suc, ◌+◌, ◌-◌, ◌*◌, ◌≤◌, List, map, [], ◌∷◌, ◌++◌}
+use Rattle.std.proofs.Common.{◌≡◌, refl, sym, ap, ◌∙◌, ℕ, suc, ◌+◌, ◌-◌, ◌*◌, ◌≤◌, ◌<◌, List, map, [], ◌∷◌, ◌++◌}
 use Rattle.std.proofs.Common.{length, get_or, take, drop, set, arith, length-append, append_assoc, append-nil}
 use Rattle.std.proofs.Math.Seq.{sets, sets-eq, drop-drop, append_snoc}
 use mathlib.Core.List.{map-append}
-use Rattle.lists.specs.Lists.{each, sum}
+use lib.ListN.{length-map}
+use Rattle.lists.specs.Lists.{each, sum, pad_to}
+use Rattle.lists.proofs.Pads.{set-pad}
 use Rattle.lists.proofs.Sums.{sum-most}
 use Rattle.model.specs.Task.{Task, parts, part}
 use Rattle.model.specs.Rows.{GoodTask}
@@ -18,7 +20,7 @@ use Rattle.table.proofs.GoodTasks.{times_fit, tasks-good}
 use Rattle.table.proofs.Walk.{Next, next, none_left, all_left}
 use Rattle.table.proofs.Laid.{Laid, laid_stored, laid_sets, times_long}
 use Rattle.cores.specs.declared.Asked.{Asked}
-use Rattle.cores.specs.Cores.{asked_of, core_of}
+use Rattle.cores.specs.Cores.{asked_of, asked_nothing, core_of}
 use Rattle.cores.proofs.GoodCores.{core_of-good}
 use Rattle.cores.proofs.core_of.Invariants.{Keeping}
 use Rattle.cores.proofs.core_of.Goals.{In-loop-row, then-row-core, else-row-core}
@@ -34,11 +36,11 @@ times-add u g =
 module _ {t : Table} {core : ℕ} {own : Table} {kept : ℕ} {asked : List Asked} {rows : List Row} {rest : List ℕ} {i : ℕ}
     (k : Keeping t core own kept asked rows rest i) where
   -- past the last row the core is whole
-  ends : length rows ≤ i → record { own = own; parts = kept; asked = record { items = asked } } ≡ core_of (on_core core (tasks_of t))
+  ends : length rows ≤ i → record { own = own; parts = kept; asked = asked } ≡ core_of (on_core core (tasks_of t))
   ends h =
       let mine = k.all ∙ rw (none_left k.tasks k.left h, core_none core) (append-nil k.mine) in
-      let whole : record { own = own; parts = kept; asked = record { items = asked } } ≡ core_of k.mine
-      = λ j. record { own = k.owns j; parts = (k.counts ∙ times-count k.mine) j; asked = record { items = k.asks j } } in
+      let whole : record { own = own; parts = kept; asked = asked } ≡ core_of k.mine
+      = λ j. record { own = k.owns j; parts = (k.counts ∙ times-count k.mine) j; asked = k.asks j } in
       whole ∙ sym (ap core_of mine)
 
   -- as the core's rows lie
@@ -92,17 +94,28 @@ module _ {t : Table} {core : ℕ} {own : Table} {kept : ℕ} {asked : List Asked
         laid_sets laid n.task row (take row.parts rest) n.row n.own put (omega (arith, laid.number, few_here))
         (omega (arith, taken, room_here)) put_is
 
+    -- what is asked of it stands behind what is asked of the others
+    asked-more : set asked own.count (asked_of (task_of row (take row.parts rest)))
+        ≡ pad_to asked_nothing 64 (map asked_of (k.mine ++ (n.task ∷ [])))
+    asked-more =
+        let place : own.count ≡ length (map asked_of k.mine) = laid.number ∙ sym (length-map k.mine asked_of) in
+        let room : length (map asked_of k.mine) < 64 = omega (arith, length-map k.mine asked_of, few_here) in
+        ap (λ u. set asked own.count (asked_of u)) whose
+        ∙ rw (k.asks, place)
+        (set-pad asked_nothing 64 (map asked_of k.mine) (asked_of n.task) room
+        ∙ ap (pad_to asked_nothing 64) (sym (map-append asked_of k.mine (n.task ∷ []))))
+
     -- a row of the core is kept
     row_kept : {behind : List ℕ} → behind ≡ drop row.parts rest → row.core ≡ core
         → Keeping t core (record { count = own.count + 1; rows = set own.rows own.count row; times = put })
-        (kept + length (take row.parts rest)) (asked ++ (asked_of (task_of row (take row.parts rest)) ∷ [])) rows behind (i + 1)
+        (kept + length (take row.parts rest)) (set asked own.count (asked_of (task_of row (take row.parts rest)))) rows behind (i + 1)
     row_kept b on =
         rw b
         record {
           mine = k.mine ++ (n.task ∷ []);
           owns = laid_stored laid-more;
           counts = rw taken laid-more.total;
-          asks = rw (k.asks, map-append) (ap (λ u. map asked_of k.mine ++ (asked_of u ∷ [])) whose);
+          asks = asked-more;
           tasks = n.others;
           left = n.left;
           all =
@@ -146,7 +159,7 @@ loop-row-init c =
       mine = [];
       owns = c.zeros-own.ensures;
       counts = refl;
-      asks = c.new-asked.ensures;
+      asks = refl;
       tasks = tasks_of t.table;
       left = all_left t;
       all = refl;
@@ -172,7 +185,7 @@ loop-row-preserved c =
     let behind = c.split_at.ensures.back in
     elim c.if-row-core.branch [
       | then-row-core w ↦
-          rw (w.own-is, w.parts-is, w.asked-is, w.push.ensures.items, w.copy_from_slice.ensures.after, w.asked_of.ensures)
+          rw (w.own-is, w.parts-is, w.asked-is, w.copy_from_slice.ensures.after, w.asked_of.ensures)
           (rw c.split_at.ensures.front (row_kept k n behind w.if-row-core.true))
       | else-row-core w ↦ rw (w.own-is, w.parts-is, w.asked-is) (row_passed k n behind w.if-row-core.false)
     ]

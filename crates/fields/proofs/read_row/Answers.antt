@@ -8,9 +8,9 @@ returns-in_err-next g c =
     let a = c.args in
     let p = err_from_is_err_and c.from_residual-in_err-next.result c.from_residual-in_err-next.ensures.1 in
     rw (p.1, p.2)
-    (times_refused g.W.Way.way a.bytes.now a.used a.at _ _ c.in_ok-row.ensures a.times.now c.told-times _ c.in_err-next.ensures)
+    (times_refused g.W.Way.way a.bytes.now a.used a.at _ _ c.in_ok-row.ensures a.times.now c.requires.room _ c.in_err-next.ensures)
 
 pub returns : goal.returns
 returns g c =
     let a = c.args in
-    row-stored g.W.Way.way a.bytes.now a.used a.at _ _ c.in_ok-row.ensures a.times.now c.told-times _ _ c.in_ok-next.ensures
+    row-stored g.W.Way.way a.bytes.now a.used a.at _ _ c.in_ok-row.ensures a.times.now c.requires.room _ _ c.in_ok-next.ensures

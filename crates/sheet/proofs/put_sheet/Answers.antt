@@ -1,4 +1,4 @@
--- `crate::sheet_of` meets its contract: a refused file has its line, a good one its cores. Assumes nothing.
+-- `sheet::put_sheet` meets its contract: a refused file has its line, a good one its cores. Assumes nothing.
 use Prim.Native.Nat.{ℕ, ◌<◌, ◌^◌}
 use native.Mathlib.Omega.{arith}
 use borrow.Author.Rules.{rules}
@@ -10,22 +10,22 @@ use Rattle.sheet.specs.Sheet.{sheet_text}
 use Rattle.text.specs.Promises.{Fits}
 use Rattle.text.proofs.Fitting.{fits_as}
 use Rattle.sheet.proofs.Files.{refused-text, good_text_lem, text_is_short}
-use Rattle.sheet.proofs.sheet_of.Goals as goal
+use Rattle.sheet.proofs.put_sheet.Goals as goal
 
--- on a new page the text has room
+-- on a page with nothing on it the text has room
 fits : (s : List ℕ) {page : List ℕ} → Bytes s → length s < 2 ^ 64 → page ≡ [] → Fits (sheet_text s) page 29842
 fits s bytes few new = record { room = omega (arith, text_is_short s bytes few, ap length new) }
 
 pub put_cores-requires : goal.put_cores-requires
 put_cores-requires c =
-    fits_as (good_text_lem _ _ c.in-Ok.ensures) (fits _ (λ i. omega (arith, c.type_inv.bytes i)) (search rules) c.new-paper.ensures)
+    fits_as (good_text_lem _ _ c.in-Ok.ensures) (fits _ (λ i. omega (arith, c.type_inv.bytes i)) (search rules) c.requires)
 
 pub put_file_line-requires : goal.put_file_line-requires
 put_file_line-requires c =
-    fits_as (refused-text _ _ c.in-Err.ensures) (fits _ (λ i. omega (arith, c.type_inv.bytes i)) (search rules) c.new-paper.ensures)
+    fits_as (refused-text _ _ c.in-Err.ensures) (fits _ (λ i. omega (arith, c.type_inv.bytes i)) (search rules) c.requires)
 
 pub returns-in-Ok : goal.returns-in-Ok
-returns-in-Ok c = rw (c.put_cores.ensures, c.new-paper.ensures) (sym (good_text_lem _ _ c.in-Ok.ensures))
+returns-in-Ok c = rw (c.put_cores.ensures, c.requires) (sym (good_text_lem _ _ c.in-Ok.ensures))
 
 pub returns-in-Err : goal.returns-in-Err
-returns-in-Err c = rw (c.put_file_line.ensures, c.new-paper.ensures) (sym (refused-text _ _ c.in-Err.ensures))
+returns-in-Err c = rw (c.put_file_line.ensures, c.requires) (sym (refused-text _ _ c.in-Err.ensures))
