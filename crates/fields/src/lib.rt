@@ -90,8 +90,7 @@ fn byte_at(text: &[u8], at: usize) -> u8
     text.get(at).copied().unwrap_or(0)
 }
 
-// The digits that stand at a place. They are gone over twice, here and in `numeral`: in line, since a call for each pass shows in time.
-#[inline(always)]
+// The digits that stand at a place.
 fn digits_at(text: &[u8], at: usize) -> &[u8]
     ensures { result.now ≡ digits_in (drop at text.now) }
 {
@@ -101,7 +100,6 @@ fn digits_at(text: &[u8], at: usize) -> &[u8]
 }
 
 // The number that digits make, held at 16,777,216, which is above every range.
-#[inline(always)]
 #[tactic(auto, using(crate::proofs::Numbered::digit_by_digit))]
 fn numeral(digits: &[u8]) -> u32
     requires { digits_in digits.now ≡ digits.now }
@@ -115,7 +113,6 @@ fn numeral(digits: &[u8]) -> u32
 }
 
 // The decimal number that begins at `at`.
-#[inline(always)]
 #[tactic(auto, using(crate::proofs::Decimal::by_digits))]
 fn decimal_at(text: &[u8], at: usize) -> Result<Read<u32>, Verdict>
     ensures { result ≡ as_read (held (decimal_at text.now at)) }
